@@ -1,0 +1,4 @@
+pub mod Chain
+pub mod Files
+pub mod Layout
+pub mod Opening

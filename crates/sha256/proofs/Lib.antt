@@ -1,0 +1,4 @@
+pub mod Blocks
+pub mod Ends
+pub mod Sinks
+pub mod Steps
