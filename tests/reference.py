@@ -5,6 +5,8 @@ import re
 import struct
 import sys
 
+import reading
+
 NAME = re.compile(rb"[0-9a-zA-Z+\-_?=][0-9a-zA-Z+\-._?=]{0,210}")
 PATH = re.compile(rb"/nix/store/[0-9abcdfghijklmnpqrsvwxyz]{32}-(.*)", re.S)
 
@@ -51,7 +53,8 @@ def listing(img):
         return b"refused %d %d\n" % refused
     out = b""
     for k, (path, text) in enumerate(files, 1):
-        out += b"%d %s %s\n" % (k, hashlib.sha256(text).hexdigest().encode(), path)
+        told = b"%d %d %d %d %d" % (reading.fault(path, text) or (0, 0, 0, 0, 0))
+        out += b"%d %s %s %s\n" % (k, told, hashlib.sha256(text).hexdigest().encode(), path)
     return out + b"files %d\n" % len(files)
 
 

@@ -5,8 +5,12 @@ ghost use Prim.Native.Nat.{ℕ, _+_, _-_, _≤_};
 ghost use lib.ListN.{length};
 ghost use Rattle.image.specs.Files.{bytes-of, files-of};
 ghost use Rattle.sink.specs.Digest.{digest as digest-of};
+ghost use Rattle.sink.specs.Numerals.{hex};
 ghost use Rattle.sink.specs.Write.{Writes};
-ghost use Rattle.listing.specs.Listing.{refused-text, file-line, last-line, lines-from, InputOpened, Listing, Written};
+ghost use Rattle.listing.specs.Listing.{refused-text, column, told-text, file-line, last-line, lines-from, Tells, AllTold, InputOpened, Listing, Written};
+use derivation::Told;
+use derivation::read_file;
+use derivation::tell;
 use image::File;
 use image::Image;
 use image::Refusal;
@@ -21,6 +25,15 @@ use sink::write_hex;
 
 // The most bytes that are read.
 const LONGEST_INPUT: usize = 65535;
+
+// What is told of a file that reads.
+const NO_FAULT: Told = Told {
+    number: 0,
+    layer: 0,
+    field: 0,
+    row: 0,
+    place: 0,
+};
 
 // `refused NUMBER SLOT`.
 pub fn write_refusal<S: Sink>(out: &mut S, number: u8, slot: u16) -> Result<(), Full>
@@ -42,15 +55,55 @@ fn write_last<S: Sink>(out: &mut S, files: usize) -> Result<(), Full>
     out.write(b"\n")
 }
 
-// `K DIGEST PATH`.
-fn write_line<S: Sink>(out: &mut S, number: usize, hash: &[u8; 32], path: &[u8]) -> Result<(), Full>
-    ensures { λ r. ⌜ Writes step (held (now (out .entry))) (file-line number (now (hash .entry)) (now (path .entry))) r (held (now (out .exit))) ⌝ }
+// A number after a space.
+fn write_column<S: Sink>(out: &mut S, n: u64) -> Result<(), Full>
+    ensures { λ r. ⌜ Writes step (held (now (out .entry))) (column n) r (held (now (out .exit))) ⌝ }
+{
+    out.write(b" ")?;
+    write_decimal(out, n)
+}
+
+// A string after a space.
+fn write_text<S: Sink>(out: &mut S, text: &[u8]) -> Result<(), Full>
+    ensures { λ r. ⌜ Writes step (held (now (out .entry))) (32 ∷ now (text .entry)) r (held (now (out .exit))) ⌝ }
+{
+    out.write(b" ")?;
+    out.write(text)
+}
+
+// A digest in base 16 after a space.
+fn write_digest<S: Sink>(out: &mut S, hash: &[u8; 32]) -> Result<(), Full>
+    ensures { λ r. ⌜ Writes step (held (now (out .entry))) (32 ∷ hex (now (hash .entry))) r (held (now (out .exit))) ⌝ }
+{
+    out.write(b" ")?;
+    write_hex(out, hash)
+}
+
+// `NUMBER LAYER FIELD ROW PLACE`.
+fn write_told<S: Sink>(out: &mut S, told: Told) -> Result<(), Full>
+    ensures { λ r. ⌜ Writes step (held (now (out .entry))) (told-text told) r (held (now (out .exit))) ⌝ }
+{
+    write_column(out, told.number as u64)?;
+    write_column(out, told.layer as u64)?;
+    write_column(out, told.field as u64)?;
+    write_column(out, told.row as u64)?;
+    write_column(out, told.place as u64)
+}
+
+// `K NUMBER LAYER FIELD ROW PLACE DIGEST PATH`.
+fn write_line<S: Sink>(
+    out: &mut S,
+    number: usize,
+    told: Told,
+    hash: &[u8; 32],
+    path: &[u8],
+) -> Result<(), Full>
+    ensures { λ r. ⌜ Writes step (held (now (out .entry))) (file-line number told (now (hash .entry)) (now (path .entry))) r (held (now (out .exit))) ⌝ }
 {
     write_decimal(out, number as u64)?;
-    out.write(b" ")?;
-    write_hex(out, hash)?;
-    out.write(b" ")?;
-    out.write(path)?;
+    write_told(out, told)?;
+    write_digest(out, hash)?;
+    write_text(out, path)?;
     out.write(b"\n")
 }
 
@@ -59,15 +112,43 @@ fn write_file<D: DigestSink, S: Sink>(
     out: &mut S,
     digest: &mut D,
     number: usize,
+    told: Told,
     file: File<'_>,
 ) -> Result<(), Full>
     requires { ⌜ length (now (file .text)) ≤ 262144 ⌝ }
-    ensures { λ r. ⌜ Writes (S·Sink .step) (S·Sink .held (now (out .entry))) (file-line number (digest-of (D·Sink .step) (D·DigestSink .start) (D·DigestSink .answered) (now (file .entry .text))) (now (file .entry .path))) r (S·Sink .held (now (out .exit))) ⌝ }
+    ensures { λ r. ⌜ Writes (S·Sink .step) (S·Sink .held (now (out .entry))) (file-line number told (digest-of (D·Sink .step) (D·DigestSink .start) (D·DigestSink .answered) (now (file .entry .text))) (now (file .entry .path))) r (S·Sink .held (now (out .exit))) ⌝ }
 {
     match digest_of(digest, file.text) {
-        Ok(hash) => write_line(out, number, &hash, file.path),
+        Ok(hash) => write_line(out, number, told, &hash, file.path),
         Err(_) => unreachable(),
     }
+}
+
+// What is told of one file.
+fn judge(file: File<'_>) -> Told
+    ensures { λ r. ⌜ Tells (now (file .entry .path)) (now (file .entry .text)) r ⌝ }
+{
+    match read_file(file.path, file.text) {
+        Ok(_) => NO_FAULT,
+        Err(fault) => tell(fault),
+    }
+}
+
+// What is told of each file, at its number less one.
+fn judge_files(image: &Image<'_>) -> [Told; 256]
+    ensures { λ r. ⌜ AllTold (bytes-of (now (image .entry))) r (files-of (now (image .entry))) ⌝ }
+{
+    let mut told = [NO_FAULT; 256];
+    for k in 0..image.count() {
+        match image.file(k + 1) {
+            Some(file) => {
+                let one = judge(file);
+                told[k] = one;
+            }
+            None => unreachable(),
+        }
+    }
+    told
 }
 
 // A line for each file, in chain order.
@@ -75,12 +156,13 @@ fn write_files<D: DigestSink, S: Sink>(
     out: &mut S,
     digest: &mut D,
     image: &Image<'_>,
+    told: &[Told; 256],
 ) -> Result<(), Full>
-    ensures { λ r. ⌜ Writes (S·Sink .step) (S·Sink .held (now (out .entry))) (lines-from (digest-of (D·Sink .step) (D·DigestSink .start) (D·DigestSink .answered)) (bytes-of (now (image .entry))) 1 (files-of (now (image .entry)))) r (S·Sink .held (now (out .exit))) ⌝ }
+    ensures { λ r. ⌜ Writes (S·Sink .step) (S·Sink .held (now (out .entry))) (lines-from (digest-of (D·Sink .step) (D·DigestSink .start) (D·DigestSink .answered)) (bytes-of (now (image .entry))) (now (told .entry)) 1 (files-of (now (image .entry)))) r (S·Sink .held (now (out .exit))) ⌝ }
 {
     for k in 0..image.count() {
         match image.file(k + 1) {
-            Some(file) => write_file(out, digest, k + 1, file)?,
+            Some(file) => write_file(out, digest, k + 1, told[k], file)?,
             None => unreachable(),
         }
     }
@@ -104,7 +186,8 @@ pub fn list<D: DigestSink, S: Sink>(out: &mut S, digest: &mut D, bytes: &[u8]) -
     let mut image = Image::empty();
     match open_input(&mut image, bytes) {
         Ok(()) => {
-            write_files(out, digest, &image)?;
+            let told = judge_files(&image);
+            write_files(out, digest, &image, &told)?;
             write_last(out, image.count())
         }
         Err(refusal) => write_refusal(out, refusal.number(), refusal.slot()),

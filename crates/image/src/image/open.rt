@@ -92,7 +92,8 @@ impl<'a> Image<'a> {
 
     // How many files the image has.
     pub fn count(&self) -> usize
-        ensures { λ r. ⌜ r ≡ files-of (now (self .entry)) ⌝ }
+        ensures value { λ r. ⌜ r ≡ files-of (now (self .entry)) ⌝ }
+        ensures few { λ r. ⌜ r ≤ 256 ⌝ }
     {
         self.count
     }

@@ -10,5 +10,5 @@ returns g c =
     let D = digest (g .D·Sink .step) (g .D·DigestSink .start) (g .D·DigestSink .answered) in
     let l = c .in-Continue-list .ensures tt in
     let w = c .new-writer .ensures in
-    let e = text-from-new (c .args .out .now) _ _ _ _ (c .list .last .out .at) (listed D (c .args .bytes .now) (l .answer)) (ap (λ b. b .now) (w .0)) (ap (λ b. b .name) (w .0)) (w .1) (l .writes .told) (c .count .ensures) _ (c .out-2·1 .given .1 .1) in
-    (l .answer, l .answered, e .0, e .1)
+    let e = text-from-new (c .args .out .now) _ _ _ _ (c .list .last .out .at) (listed D (c .args .bytes .now) (l .told) (l .answer)) (ap (λ b. b .now) (w .0)) (ap (λ b. b .name) (w .0)) (w .1) (l .writes .told) (c .count .ensures) _ (c .out-2·1 .given .1 .1) in
+    (l .answer, l .told, l .answered, l .judged, e .0, e .1)

@@ -12,5 +12,5 @@ Inv-loop-k g l =
     let s = g .S·Sink in
     let D = digest (g .D·Sink .step) (g .D·DigestSink .start) (g .D·DigestSink .answered) in
     Leads (Unit {0}) Full (s .step)
-    (s .held (l .entry .out)) (lines-from D (bytes-of (l .image)) 1 (files-of (l .image)))
-    (s .held (l .out)) (lines-from D (bytes-of (l .image)) (l .k + 1) (files-of (l .image) - l .k))
+    (s .held (l .entry .out)) (lines-from D (bytes-of (l .image)) (l .told) 1 (files-of (l .image)))
+    (s .held (l .out)) (lines-from D (bytes-of (l .image)) (l .told) (l .k + 1) (files-of (l .image) - l .k))

@@ -1,0 +1,16 @@
+// The texts of derivations, read into the spans of their strings.
+mod fault;
+mod file;
+mod part;
+mod rows;
+
+pub use fault::Cause;
+pub use fault::Fault;
+pub use file::Derivation;
+pub use file::Input;
+pub use file::Output;
+pub use file::Variable;
+pub use file::read;
+pub use part::Span;
+pub use rows::Placed;
+pub use rows::Rows;

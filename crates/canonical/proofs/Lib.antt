@@ -1,0 +1,14 @@
+pub mod Decoding
+pub mod Leading
+pub mod Orders
+pub mod Sorting
+pub mod Members
+pub mod Unique
+pub mod Home
+pub mod Bound
+pub mod Exist
+pub mod Spans
+pub mod Arranging
+pub mod Alone
+pub mod Back
+pub mod Compared

@@ -1,0 +1,9 @@
+pub mod Strings
+pub mod Order
+pub mod Kinds
+pub mod Meanings
+pub mod Decode
+pub mod Laws
+pub mod Files
+pub mod Canonical
+pub mod Differences

@@ -1,0 +1,6 @@
+pub mod Again
+pub mod Clean
+pub mod Lists
+pub mod Meanings
+pub mod Trees
+pub mod Values

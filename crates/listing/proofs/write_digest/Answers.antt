@@ -1,0 +1,5 @@
+use Rattle.sink.proofs.Writing.{then}
+use Rattle.listing.proofs.write_digest.Needs as need
+
+pub returns : need.returns
+returns g c = then (c .in-Continue-write .ensures tt .writes) (c .write-hex .ensures .writes)
