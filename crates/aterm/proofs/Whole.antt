@@ -95,7 +95,7 @@ module _ (t : List ℕ) (inside : ℕ) (h : inside ≤ length t) (p : signs t �
         (stop-after (after-body (w .tree)) (w .whole) (reach t (write derivation (w .tree)) inside to (w .whole) h (w .inside))
         (stop-first close end tt (λ z. ([], refl)) to (sign-at t to k) (λ e. let z : _≡_ {A = ℕ} 0 1 = cc in omega arith) (λ e. let z : _≡_ {A = ℕ} 0 1 = cc in omega arith)))
 
-    written-whole : length t ≤ to → signs t ≡ whole (w .tree)
+    pub written-whole : length t ≤ to → signs t ≡ whole (w .tree)
     written-whole k =
         let here : to ≡ length t = omega (arith, w .inside) in
         p ∙ ap (λ l. map byte word ++ l) (w .whole ∙ ap (λ l. write derivation (w .tree) ++ l) (ap (λ i. drop i (signs t)) here ∙ sign-end t))

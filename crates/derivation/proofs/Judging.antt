@@ -52,7 +52,7 @@ same-number : (p q : Question) → number p ≡ number q → p ≡ q
 same-number p q e = sym (asked-number p) ∙ ap asked e ∙ asked-number q
 
 module _ (path text : List ℕ) where
-  one-refusal : (p q : Question) (w v : Spot) (a : Refused path text p w) (b : Refused path text q v) → b .tree ≡ a .tree → Row q v ≡ Row p w
+  pub one-refusal : (p q : Question) (w v : Spot) (a : Refused path text p w) (b : Refused path text q v) → b .tree ≡ a .tree → Row q v ≡ Row p w
   one-refusal p q w v a b t =
       ⊎-elim
       (λ h. absurd (not-both (Yes p path (a .tree .0)) (entries (a .tree)) w (a .found) (subst (λ x. Answer path x p None) t (b .passed p h))))

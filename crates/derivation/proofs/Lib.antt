@@ -5,3 +5,4 @@ pub mod Meant
 pub mod Fresh
 pub mod Plain
 pub mod Judging
+pub mod Total

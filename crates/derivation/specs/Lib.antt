@@ -4,3 +4,4 @@ pub mod Meaning
 pub mod Keys
 pub mod Plain
 pub mod Judgement
+pub mod Total

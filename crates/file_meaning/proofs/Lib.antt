@@ -1,5 +1,6 @@
 pub mod Again
 pub mod Clean
+pub mod Judged
 pub mod Lists
 pub mod Meanings
 pub mod Trees

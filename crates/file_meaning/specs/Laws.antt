@@ -1,11 +1,14 @@
 -- The laws of files that read and their canonical texts.
 -- Source: this project's own rule (docs/FORMATS.md, "Meaning and canonical text").
 use mathlib.Core.List.{List}
+use mathlib.Core.Logic.{_⊎_}
 use mathlib.Core.Path.{_≡_}
 use Prim.Native.Nat.{ℕ, _*_, _≤_}
 use lib.ListN.{length}
 use Rattle.aterm.specs.Files.{derivation, whole}
 use Rattle.aterm.specs.Grammar.{Tree, signs}
+use Rattle.derivation.specs.Judgement.{IsFileFault}
+use Rattle.derivation.specs.declared.fault.FileFault.{FileFault}
 use Rattle.canonical.specs.Canonical.{Canonical, CanonicalText}
 use Rattle.canonical.specs.Meanings.{a-derivation, Meaning, canonical}
 use Rattle.file_meaning.specs.Reads.{Reads}
@@ -13,6 +16,18 @@ use Rattle.file_meaning.specs.Reads.{Reads}
 -- a file that reads has one meaning only
 abbrev pub One-meaning : Type 0
 One-meaning = (path text : List ℕ) (m n : Meaning) → Reads path text m → Reads path text n → m ≡ n
+
+-- every file reads to some meaning, or has a fault
+abbrev pub Every-file : Type 0
+Every-file = (path text : List ℕ) → ((m : Meaning) × Reads path text m) ⊎ ((f : FileFault) × IsFileFault path text f)
+
+-- and not both
+abbrev pub Not-both : Type 0
+Not-both = (path text : List ℕ) (m : Meaning) (f : FileFault) → Reads path text m → IsFileFault path text f → ⊥
+
+-- a file has one fault only
+abbrev pub One-fault : Type 0
+One-fault = (path text : List ℕ) (f g : FileFault) → IsFileFault path text f → IsFileFault path text g → f ≡ g
 
 -- every meaning that some file reads to has exactly one canonical text
 pub record OneText (m : Meaning) : Type 0 where

@@ -1,5 +1,14 @@
 // The laws of files that read and their canonical texts, each the contract of a function.
-ghost use Rattle.file_meaning.specs.Laws.{One-meaning, One-text, Written-back, Reads-again, Alike, Short};
+ghost use Rattle.file_meaning.specs.Laws.{Every-file, Not-both, One-fault, One-meaning, One-text, Written-back, Reads-again, Alike, Short};
+
+// Every file reads or has a fault, not both, and one fault only.
+pub fn files_are_judged() -> bool
+    ensures every { λ _. ⌜ Every-file ⌝ }
+    ensures apart { λ _. ⌜ Not-both ⌝ }
+    ensures one { λ _. ⌜ One-fault ⌝ }
+{
+    true
+}
 
 // A file that reads has one meaning only.
 pub fn files_have_one_meaning() -> bool

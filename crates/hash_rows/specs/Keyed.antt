@@ -1,5 +1,5 @@
 -- Rows of any kind, each with a key: rising rows, one row put among them, and the last of each key.
--- Source: this project's own rule: the rows of a hash text rise by hash, and of equal hashes the last row stands (docs/FORMATS.md, "Rows by hash").
+-- Source: this project's own rule: the rows of a hash text rise by hash, and of equal hashes the last row stands (docs/FORMATS.md, "Hashes modulo inputs").
 use Prim.Native.Nat.{ℕ, suc, _<_, _≤_}
 use mathlib.Core.Path.{_≡_}
 use mathlib.Core.Logic.{_⊎_}

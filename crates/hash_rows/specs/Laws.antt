@@ -1,5 +1,5 @@
 -- What holds of every table of rows by hash.
--- Source: this project's own rule (docs/FORMATS.md, "Rows by hash").
+-- Source: this project's own rule (docs/FORMATS.md, "Hashes modulo inputs").
 use Prim.Native.Nat.{ℕ, _≤_}
 use mathlib.Core.Path.{_≡_}
 use mathlib.Core.Logic.{_⊎_}

@@ -1,5 +1,5 @@
 -- The table's rows, by hash.
--- Source: this project's own rule (docs/FORMATS.md, "Rows by hash").
+-- Source: this project's own rule (docs/FORMATS.md, "Hashes modulo inputs").
 use Prim.Native.Nat.{ℕ, _<_, _≤_}
 use mathlib.Core.Path.{_≡_, refl}
 use mathlib.Core.List.{List}

@@ -41,7 +41,7 @@ same-text a b =
     let d = sameBytes-decides a b in
     elim (cases-bool (sameBytes a b)) [ inl t ↦ inl (d .0 t) | inr f ↦ inr (not-from-decides (sameBytes a b) d f) ]
 
-has : (xs : List ℕ) (x : ℕ) → Known (Has xs x)
+pub has : (xs : List ℕ) (x : ℕ) → Known (Has xs x)
 has [] x = inr none
   where
     none : Has [] x → ⊥
@@ -56,11 +56,11 @@ has (y ∷ ys) x =
     nowhere y ys x n m zero h at = n (at 0)
     nowhere y ys x n m (suc k) h at = m (k, omega arith, at)
 
-all : {P : ℕ → Type 0} → ((x : ℕ) → Known (P x)) → (xs : List ℕ) → Known (All P xs)
+pub all : {P : ℕ → Type 0} → ((x : ℕ) → Known (P x)) → (xs : List ℕ) → Known (All P xs)
 all known [] = inl tt
 all known (x ∷ xs) = both (known x) (all known xs)
 
-name : (s : List ℕ) → Known (Name s)
+pub name : (s : List ℕ) → Known (Name s)
 name s =
     like (λ p. record { some = p .0; most = p .1 .0; first = p .1 .1 .0; bytes = p .1 .1 .1 }) (λ n. (n .some, (n .most, (n .first, n .bytes))))
     (both (at-most 1 (length s)) (both (at-most (length s) 211) (both (no-longer (cases-eq (getD s 0 0) 46)) (all (has name-bytes) s))))

@@ -1,0 +1,4 @@
+pub mod Choosing
+pub mod Deciding
+pub mod Founding
+pub mod Hashes

@@ -1,0 +1,3 @@
+pub mod Hashes
+pub mod Laws
+pub mod Sets

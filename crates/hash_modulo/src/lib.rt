@@ -1,0 +1,4 @@
+// The recursive definition of hashes modulo inputs, and its laws.
+mod laws;
+
+pub use laws::definition_stands;
