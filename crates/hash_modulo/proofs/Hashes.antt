@@ -32,7 +32,7 @@ one-meaning set p m n a b =
 only-once : (os : List (Value an-output)) (a b : Value an-output) → os ≡ a ∷ [] → os ≡ b ∷ [] → a ≡ b
 only-once os a b p q = cc
 
-rows-agree : (f g : Bytes → Bytes) (rows : List Row) → ((r : Row) → Member r rows → f (r .0) ≡ g (r .0))
+pub rows-agree : (f g : Bytes → Bytes) (rows : List Row) → ((r : Row) → Member r rows → f (r .0) ≡ g (r .0))
     → map {B = Row} (λ (r : Row). (hex (f (r .0)), r .1)) rows ≡ map {B = Row} (λ (r : Row). (hex (g (r .0)), r .1)) rows
 rows-agree f g [] e = refl
 rows-agree f g (x ∷ xs) e =
@@ -40,7 +40,7 @@ rows-agree f g (x ∷ xs) e =
     let b = rows-agree f g xs (λ r i. e r (inr i)) in
     λ i. (hex (a i), x .1) ∷ b i
 
-no-row : Row
+pub no-row : Row
 no-row = ([], [])
 
 one-string : (f g : Bytes → Bytes) (m : Meaning) (s t : Bytes) → ((r : Row) → Names m r → f (r .0) ≡ g (r .0)) → HashString f m s → HashString g m t → s ≡ t

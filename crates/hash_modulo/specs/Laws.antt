@@ -2,8 +2,10 @@
 -- Source: this project's own rule (docs/FORMATS.md, "Hashes modulo inputs").
 use mathlib.Core.Logic.{_⊎_}
 use mathlib.Core.Path.{_≡_}
-use Rattle.canonical.specs.Meanings.{Meaning}
+use Rattle.canonical.specs.Kinds.{Value}
+use Rattle.canonical.specs.Meanings.{an-output, Meaning}
 use Rattle.hash_modulo.specs.Hashes.{Digest, Hashed}
+use Rattle.hash_modulo.specs.Paths.{OwnPath, OutputPath}
 use Rattle.hash_modulo.specs.Sets.{Bytes, Files, Present, Finite, Means, Readable, Row, Names, Owned, Ready, Rests, Hashable}
 
 abbrev pub Iff : Type 0 → Type 0 → Type 0
@@ -57,3 +59,13 @@ Some-input-without = (set : Files) → Finite set → (p : Bytes) (m : Meaning) 
 abbrev pub Local : Type 0
 Local = (one two : Files) (d : Digest) (p h : Bytes) → one p ≡ two p → ((q : Bytes) → Rests one p q → one q ≡ two q)
     → Hashed one d p h → Hashed two d p h
+
+-- every meaning has right paths, whatever the digest and the hashes of its inputs, and one each
+pub record Own-paths : Type 0 where
+  pub some : (d : Digest) (path : Bytes) (m : Meaning) → (q : Bytes) × OwnPath d path m q
+  pub one : (d : Digest) (path : Bytes) (m : Meaning) (p q : Bytes) → OwnPath d path m p → OwnPath d path m q → p ≡ q
+
+pub record Output-paths : Type 0 where
+  pub some : (d : Digest) (path : Bytes) (g : Bytes → Bytes) (m : Meaning) (o : Value an-output) → (q : Bytes) × OutputPath d path g m o q
+  pub one : (d : Digest) (path : Bytes) (f g : Bytes → Bytes) (m : Meaning) (o : Value an-output) (p q : Bytes)
+      → ((r : Row) → Names m r → f (r .0) ≡ g (r .0)) → OutputPath d path f m o p → OutputPath d path g m o q → p ≡ q

@@ -1,3 +1,4 @@
 pub mod Hashes
 pub mod Laws
+pub mod Paths
 pub mod Sets

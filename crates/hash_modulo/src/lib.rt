@@ -2,3 +2,4 @@
 mod laws;
 
 pub use laws::definition_stands;
+pub use laws::right_paths_stand;
