@@ -99,7 +99,7 @@ pub fn expect_word(text: &[u8], word: &[u8]) -> Result<usize, Fault>
 // Reads a field, and the byte that closes it.
 pub fn read_field<T: Part>(text: &[u8], at: usize, closing: u8) -> Result<(T, usize), Fault>
     requires { at ≤ length text.now }
-    ensures { Answers (written_field shape closing) (holds text.now (at + 1)) text.now at result }
+    ensures { Answers (written_field T.shape closing) (T.holds text.now (at + 1)) text.now at result }
 {
     let inside = expect(text, at, T::open())?;
     let (value, end) = T::rest(text, inside)?;
@@ -110,7 +110,7 @@ pub fn read_field<T: Part>(text: &[u8], at: usize, closing: u8) -> Result<(T, us
 // Reads a row of a list that has room for `room` rows still.
 fn read_row<T: Part>(text: &[u8], at: usize, room: usize) -> Result<(T, usize), Fault>
     requires { at ≤ length text.now }
-    ensures row { Answers (written_row shape room) (holds text.now (at + 1)) text.now at result }
+    ensures row { Answers (written_row T.shape room) (T.holds text.now (at + 1)) text.now at result }
     ensures room { IfOk result (λ v. (0 < room) × (at < v.1)) }
 {
     let inside = expect(text, at, T::open())?;

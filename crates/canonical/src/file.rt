@@ -134,7 +134,7 @@ pub fn write_fields<O: Canon, I: Canon, E: Canon, S: Sink>(
 
 // Writes a derivation with its rows in the order in which it has them.
 pub fn write_derivation<S: Sink>(text: &[u8], file: &Derivation, sink: &mut S) -> Result<(), Full>
-    ensures { Writes step (held sink.old) (canonical (derivation_value text.now file.now)) result (held sink.new) }
+    ensures { Writes S.step (S.held sink.old) (canonical (derivation_value text.now file.now)) result (S.held sink.new) }
 {
     write_fields(
         text,
@@ -148,7 +148,7 @@ pub fn write_derivation<S: Sink>(text: &[u8], file: &Derivation, sink: &mut S) -
 
 // Writes the canonical text of what a derivation read from the text means.
 pub fn write_canonical<S: Sink>(text: &[u8], file: Derivation, sink: &mut S) -> Result<(), Full>
-    ensures { (at : ℕ) (t : Tree derivation) (m : Meaning) → in_derivation text.now at file t → Apart a_derivation t → Means a_derivation t m → Writes step (held sink.old) (canonical m) result (held sink.new) }
+    ensures { (at : ℕ) (t : Tree derivation) (m : Meaning) → in_derivation text.now at file t → Apart a_derivation t → Means a_derivation t m → Writes S.step (S.held sink.old) (canonical m) result (S.held sink.new) }
 {
     let arranged = sorted(text, file);
     write_derivation(text, &arranged, sink)

@@ -11,9 +11,9 @@ use std::cmp::Ordering;
 // Moves the row at `from` down to its place among those before it, which are sorted.
 fn settle<T: Canon, const N: usize>(text: &[u8], rows: &mut [T; N], from: usize)
     requires within { from < N }
-    requires sorted { Upto (λ v. key kind (value text.now v)) from rows.old }
+    requires sorted { Upto (λ v. key T.kind (T.value text.now v)) from rows.old }
     ensures shuffled { (n : ℕ) → from < n → IsPermutation (take n rows.old) (take n rows.new) }
-    ensures sorted { Upto (λ v. key kind (value text.now v)) (from + 1) rows.new }
+    ensures sorted { Upto (λ v. key T.kind (T.value text.now v)) (from + 1) rows.new }
 {
     let mut j = from;
     while j > 0 {
@@ -33,7 +33,7 @@ fn settle<T: Canon, const N: usize>(text: &[u8], rows: &mut [T; N], from: usize)
 pub fn sort_rows<T: Canon, const N: usize>(text: &[u8], rows: &mut [T; N], count: usize)
     requires { count ≤ N }
     ensures shuffled { IsPermutation (take count rows.old) (take count rows.new) }
-    ensures level { Level (λ v. key kind (value text.now v)) (take count rows.new) }
+    ensures level { Level (λ v. key T.kind (T.value text.now v)) (take count rows.new) }
 {
     for i in 0..count {
         settle(text, rows, i);

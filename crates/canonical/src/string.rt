@@ -66,7 +66,7 @@ pub fn compare(text: &[u8], a: Span, b: Span) -> Ordering
 
 // A byte of a string, escaped where it has to be.
 fn write_byte<S: Sink>(sink: &mut S, b: u8) -> Result<(), Full>
-    ensures { Writes step (held sink.old) (escaped b) result (held sink.new) }
+    ensures { Writes S.step (S.held sink.old) (escaped b) result (S.held sink.new) }
 {
     match b {
         b'"' => sink.write(b"\\\""),
@@ -80,7 +80,7 @@ fn write_byte<S: Sink>(sink: &mut S, b: u8) -> Result<(), Full>
 
 // The canonical text of a string.
 pub fn write_span<S: Sink>(text: &[u8], span: Span, sink: &mut S) -> Result<(), Full>
-    ensures { Writes step (held sink.old) (quoted (said text.now span.start span.«end»)) result (held sink.new) }
+    ensures { Writes S.step (S.held sink.old) (quoted (said text.now span.start span.«end»)) result (S.held sink.new) }
 {
     sink.write(b"\"")?;
     let mut at = span.start;
@@ -93,7 +93,7 @@ pub fn write_span<S: Sink>(text: &[u8], span: Span, sink: &mut S) -> Result<(), 
 
 // The canonical text of a string that means these bytes, for one that stands in no text.
 pub fn write_string<S: Sink>(bytes: &[u8], sink: &mut S) -> Result<(), Full>
-    ensures { Writes step (held sink.old) (quoted bytes.now) result (held sink.new) }
+    ensures { Writes S.step (S.held sink.old) (quoted bytes.now) result (S.held sink.new) }
 {
     sink.write(b"\"")?;
     for b in bytes {

@@ -21,8 +21,8 @@ pub trait Ask {
 
 // The first slot of the chain at which the answer is no.
 pub fn first_no<Q: Ask>(ask: &Q, bytes: &[u8], slots: &[u16]) -> Option<u16>
-    requires { (Walked bytes.now slots.now) × (given bytes.now (length slots.now)) }
-    ensures { MatchOption result (Every (holds bytes.now) (length slots.now)) (λ slot. FirstNo bytes.now (holds bytes.now) (length slots.now) slot) }
+    requires { (Walked bytes.now slots.now) × (Q.given bytes.now (length slots.now)) }
+    ensures { MatchOption result (Every (Q.holds bytes.now) (length slots.now)) (λ slot. FirstNo bytes.now (Q.holds bytes.now) (length slots.now) slot) }
 {
     for n in 0..slots.len() {
         if !ask.says(bytes, slots, n) {

@@ -24,7 +24,7 @@ const NO_FAULT: Told = Told {
 
 // `refused NUMBER SLOT`.
 pub fn write_refusal<S: Sink>(out: &mut S, number: u8, slot: u16) -> Result<(), Full>
-    ensures { Writes step (held out.old) (refused_text number slot) result (held out.new) }
+    ensures { Writes S.step (S.held out.old) (refused_text number slot) result (S.held out.new) }
 {
     out.write(b"refused ")?;
     write_decimal(out, number as u64)?;
@@ -35,7 +35,7 @@ pub fn write_refusal<S: Sink>(out: &mut S, number: u8, slot: u16) -> Result<(), 
 
 // `files N`.
 fn write_last<S: Sink>(out: &mut S, files: usize) -> Result<(), Full>
-    ensures { Writes step (held out.old) (last_line files) result (held out.new) }
+    ensures { Writes S.step (S.held out.old) (last_line files) result (S.held out.new) }
 {
     out.write(b"files ")?;
     write_decimal(out, files as u64)?;
@@ -44,7 +44,7 @@ fn write_last<S: Sink>(out: &mut S, files: usize) -> Result<(), Full>
 
 // A number after a space.
 fn write_column<S: Sink>(out: &mut S, n: u64) -> Result<(), Full>
-    ensures { Writes step (held out.old) (column n) result (held out.new) }
+    ensures { Writes S.step (S.held out.old) (column n) result (S.held out.new) }
 {
     out.write(b" ")?;
     write_decimal(out, n)
@@ -52,7 +52,7 @@ fn write_column<S: Sink>(out: &mut S, n: u64) -> Result<(), Full>
 
 // A string after a space.
 fn write_text<S: Sink>(out: &mut S, text: &[u8]) -> Result<(), Full>
-    ensures { Writes step (held out.old) (32 ∷ text.now) result (held out.new) }
+    ensures { Writes S.step (S.held out.old) (32 ∷ text.now) result (S.held out.new) }
 {
     out.write(b" ")?;
     out.write(text)
@@ -60,7 +60,7 @@ fn write_text<S: Sink>(out: &mut S, text: &[u8]) -> Result<(), Full>
 
 // A digest in base 16 after a space.
 fn write_digest<S: Sink>(out: &mut S, hash: &[u8; 32]) -> Result<(), Full>
-    ensures { Writes step (held out.old) (32 ∷ hex hash.now) result (held out.new) }
+    ensures { Writes S.step (S.held out.old) (32 ∷ hex hash.now) result (S.held out.new) }
 {
     out.write(b" ")?;
     write_hex(out, hash)
@@ -68,7 +68,7 @@ fn write_digest<S: Sink>(out: &mut S, hash: &[u8; 32]) -> Result<(), Full>
 
 // `NUMBER LAYER FIELD ROW PLACE`.
 fn write_told<S: Sink>(out: &mut S, told: Told) -> Result<(), Full>
-    ensures { Writes step (held out.old) (told_text told) result (held out.new) }
+    ensures { Writes S.step (S.held out.old) (told_text told) result (S.held out.new) }
 {
     write_column(out, told.number as u64)?;
     write_column(out, told.layer as u64)?;
@@ -85,7 +85,7 @@ fn write_line<S: Sink>(
     hash: &[u8; 32],
     path: &[u8],
 ) -> Result<(), Full>
-    ensures { Writes step (held out.old) (file_line number told hash.now path.now) result (held out.new) }
+    ensures { Writes S.step (S.held out.old) (file_line number told hash.now path.now) result (S.held out.new) }
 {
     write_decimal(out, number as u64)?;
     write_told(out, told)?;

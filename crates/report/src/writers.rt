@@ -8,7 +8,7 @@ use sink::{Full, Sink, write_decimal};
 
 // A number after a space.
 fn write_column<S: Sink>(out: &mut S, n: u64) -> Result<(), Full>
-    ensures { Writes step (held out.old) (column n) result (held out.new) }
+    ensures { Writes S.step (S.held out.old) (column n) result (S.held out.new) }
 {
     out.write(b" ")?;
     write_decimal(out, n)
@@ -16,7 +16,7 @@ fn write_column<S: Sink>(out: &mut S, n: u64) -> Result<(), Full>
 
 // `NUMBER LAYER FIELD ROW PLACE`, each after a space.
 fn write_told<S: Sink>(out: &mut S, told: Told) -> Result<(), Full>
-    ensures { Writes step (held out.old) (told_text told) result (held out.new) }
+    ensures { Writes S.step (S.held out.old) (told_text told) result (S.held out.new) }
 {
     write_column(out, told.number as u64)?;
     write_column(out, told.layer as u64)?;
@@ -27,7 +27,7 @@ fn write_told<S: Sink>(out: &mut S, told: Told) -> Result<(), Full>
 
 // What is told of a file, or that it has no verdict yet.
 fn write_state<S: Sink>(out: &mut S, told: Option<Told>) -> Result<(), Full>
-    ensures { Writes step (held out.old) (state_text told) result (held out.new) }
+    ensures { Writes S.step (S.held out.old) (state_text told) result (S.held out.new) }
 {
     match told {
         Some(details) => write_told(out, details),
@@ -37,7 +37,7 @@ fn write_state<S: Sink>(out: &mut S, told: Option<Told>) -> Result<(), Full>
 
 // `K NUMBER LAYER FIELD ROW PLACE`, or `K pending`.
 pub fn write_file_line<S: Sink>(out: &mut S, number: usize, told: Option<Told>) -> Result<(), Full>
-    ensures { Writes step (held out.old) (line_text number told) result (held out.new) }
+    ensures { Writes S.step (S.held out.old) (line_text number told) result (S.held out.new) }
 {
     write_decimal(out, number as u64)?;
     write_state(out, told)?;
@@ -58,7 +58,7 @@ fn percent_of(files: usize, accepted: usize) -> u128
 // A number in base 10; of one past 64 bits the last two digits follow the others.
 fn write_hundredfold<S: Sink>(out: &mut S, n: u128) -> Result<(), Full>
     requires { n < 100 * 2 ^ 64 }
-    ensures { Writes step (held out.old) (decimal n) result (held out.new) }
+    ensures { Writes S.step (S.held out.old) (decimal n) result (S.held out.new) }
 {
     if n <= u64::MAX as u128 {
         return write_decimal(out, n as u64);
@@ -70,7 +70,7 @@ fn write_hundredfold<S: Sink>(out: &mut S, n: u128) -> Result<(), Full>
 
 // `FILES ACCEPTED PERCENT`.
 pub fn write_summary<S: Sink>(out: &mut S, files: usize, accepted: usize) -> Result<(), Full>
-    ensures { Writes step (held out.old) (tail_text files accepted) result (held out.new) }
+    ensures { Writes S.step (S.held out.old) (tail_text files accepted) result (S.held out.new) }
 {
     write_decimal(out, files as u64)?;
     write_column(out, accepted as u64)?;
@@ -81,7 +81,7 @@ pub fn write_summary<S: Sink>(out: &mut S, files: usize, accepted: usize) -> Res
 
 // `refused NUMBER SLOT`.
 pub fn write_refused<S: Sink>(out: &mut S, number: u8, slot: u16) -> Result<(), Full>
-    ensures { Writes step (held out.old) (refused_text number slot) result (held out.new) }
+    ensures { Writes S.step (S.held out.old) (refused_text number slot) result (S.held out.new) }
 {
     out.write(b"refused ")?;
     write_decimal(out, number as u64)?;

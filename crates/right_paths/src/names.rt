@@ -35,7 +35,7 @@ pub fn write_output_name<S: Sink>(
     out: Span,
     sink: &mut S,
 ) -> Result<(), Full>
-    ensures { Writes step (held sink.old) (output_name path.now (said text.now out.start out.«end»)) result (held sink.new) }
+    ensures { Writes S.step (S.held sink.old) (output_name path.now (said text.now out.start out.«end»)) result (S.held sink.new) }
 {
     if says(text, out, b"out") {
         return sink.write(stem(path));

@@ -35,7 +35,7 @@ fn next_reference(
 
 // `:` and the path that a string means.
 fn write_reference<S: Sink>(text: &[u8], path: Span, sink: &mut S) -> Result<(), Full>
-    ensures { Writes step (held sink.old) (58 ∷ said_in text.now path) result (held sink.new) }
+    ensures { Writes S.step (S.held sink.old) (58 ∷ said_in text.now path) result (S.held sink.new) }
 {
     sink.write(b":")?;
     write_said(text, path, sink)
@@ -43,7 +43,7 @@ fn write_reference<S: Sink>(text: &[u8], path: Span, sink: &mut S) -> Result<(),
 
 // `text`, and `:` and its path for each reference. The rows of the inputs and the sources are sorted.
 pub fn write_references<S: Sink>(text: &[u8], file: &Derivation, sink: &mut S) -> Result<(), Full>
-    ensures { Writes step (held sink.old) (own_type (references_of (derivation_value text.now file.now))) result (held sink.new) }
+    ensures { Writes S.step (S.held sink.old) (own_type (references_of (derivation_value text.now file.now))) result (S.held sink.new) }
 {
     sink.write(b"text")?;
     let inputs = file.inputs.as_slice();

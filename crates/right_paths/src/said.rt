@@ -9,7 +9,7 @@ use sink::{Full, Sink};
 
 // Writes the bytes that a string means, as they are.
 pub fn write_said<S: Sink>(text: &[u8], span: Span, sink: &mut S) -> Result<(), Full>
-    ensures { Writes step (held sink.old) (said text.now span.start span.«end») result (held sink.new) }
+    ensures { Writes S.step (S.held sink.old) (said text.now span.start span.«end») result (S.held sink.new) }
 {
     let mut at = span.start;
     while let Some((b, after)) = next(text, at, span.end) {

@@ -16,7 +16,7 @@ use sink::{Full, Sink, write_hex};
 
 // The part of such a string between its type and its name.
 pub fn write_hash<S: Sink>(hash: &[u8; 32], sink: &mut S) -> Result<(), Full>
-    ensures { Writes step (held sink.old) (codes ":sha256:" ++ (hex hash.now ++ codes ":/nix/store:")) result (held sink.new) }
+    ensures { Writes S.step (S.held sink.old) (codes ":sha256:" ++ (hex hash.now ++ codes ":/nix/store:")) result (S.held sink.new) }
 {
     sink.write(b":sha256:")?;
     write_hex(sink, hash)?;

@@ -1,7 +1,7 @@
 -- A sink that keeps nothing but numbers.
-use Rattle.std.proofs.Common.{◌≡◌, ℕ, ◌+◌, ◌-◌, ◌%◌, ◌^◌, ◌<◌, ◌≤◌, List, [], ◌∷◌, length, drop, sym, refl, arith}
+use Rattle.std.proofs.Common.{◌≡◌, ℕ, ◌+◌, ◌-◌, ◌%◌, ◌^◌, ◌<◌, ◌≤◌, List, [], ◌∷◌, length, sym, refl, arith}
 use Rattle.std.proofs.lemmas.List.{drop_all}
-use Rattle.sink.specs.Write.{Held, steps, filled, Taken, Stopped}
+use Rattle.sink.specs.Write.{steps, filled, Taken, Stopped}
 use Rattle.sink.specs.Counter.{forgetting, numbered}
 use Rattle.sink.proofs.Writing.{parts, kept}
 

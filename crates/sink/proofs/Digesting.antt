@@ -1,6 +1,6 @@
 -- A digest from what begin, write and answer ensure.
-use Rattle.std.proofs.Common.{◌≡◌, ℕ, ◌≤◌, true, List, is_err, Ok, Err, Result, ap, ◌∙◌, arith}
-use Rattle.sink.specs.Digest.{begun, Begins, digest, Digests}
+use Rattle.std.proofs.Common.{◌≡◌, ℕ, true, List, is_err, Ok, Err, Result, ap, ◌∙◌, arith}
+use Rattle.sink.specs.Digest.{begun, Begins, Digests}
 use Rattle.sink.specs.Write.{Step, Meaning, Held, written, Stopped, Writes}
 use Rattle.sink.proofs.Writing.{filled_meaning}
 

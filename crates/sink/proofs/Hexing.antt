@@ -1,7 +1,6 @@
 -- Pairs of digits, written one after another.
-use Rattle.std.proofs.Common.{◌≡◌, ℕ, suc, ◌+◌, ◌*◌, ◌/◌, ◌<◌, ◌≤◌, List, [], ◌∷◌, ◌++◌, length, get_or, take, drop, sym, refl, ap, ◌∙◌, subst, arith}
-use Rattle.std.proofs.lemmas.List.{append-nil, take_more, take-append-drop, take_at, length-take-le, flat_map_more}
-use Rattle.std.specs.List.{flat_map}
+use Rattle.std.proofs.Common.{◌≡◌, ℕ, ◌+◌, ◌*◌, ◌/◌, ◌<◌, ◌≤◌, List, [], ◌∷◌, ◌++◌, length, get_or, take, drop, sym, refl, ap, ◌∙◌, subst, arith}
+use Rattle.std.proofs.lemmas.List.{take_more, take-append-drop, take_at, length-take-le, flat_map_more}
 use Rattle.sink.specs.Numerals.{pair, hex}
 use Rattle.sink.specs.Write.{Step, Held, Taken}
 use Rattle.sink.proofs.Writing.{taken_then}

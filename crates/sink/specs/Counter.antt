@@ -1,5 +1,5 @@
 -- The meaning of a sink that only counts: it keeps no byte, and takes as many as a count of 64 bits holds.
-use Rattle.std.specs.Prelude.{ℕ, ◌-◌, ◌%◌, ◌^◌, ◌<◌, List, []}
+use Rattle.std.specs.Prelude.{ℕ, ◌-◌, ◌%◌, ◌^◌, ◌<◌, []}
 use Rattle.std.proofs.Common.{arith}
 use Rattle.sink.specs.Write.{Step, Held}
 

@@ -13,9 +13,9 @@ pub struct BufferWriter<'a> {
 impl<'a> Sink for BufferWriter<'a> {
     ghost step = { pushing };
 
-    ghost held = { λ s. buffered s.buf.now s.buf.name s.at };
+    ghost held = { λ s. buffered s.buf.now s.buf.ghost_name s.at };
 
-    ghost wraps = { λ s. buffered_wraps s.buf.now s.buf.name s.at };
+    ghost wraps = { λ s. buffered_wraps s.buf.now s.buf.ghost_name s.at };
 
     fn write(&mut self, bytes: &[u8]) -> Result<(), Full> {
         let at = self.at;

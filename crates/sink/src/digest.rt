@@ -7,8 +7,8 @@ use crate::{DigestSink, Full};
 
 // Begins the sink, writes the bytes and answers their digest; refused where they pass the sink's capacity, which is a mebibyte at least.
 pub fn digest_of<S: DigestSink>(sink: &mut S, bytes: &[u8]) -> Result<[u8; 32], Full>
-    ensures large { 1048576 ≤ capacity }
-    ensures digests { Digests S.Sink.step start capacity answered (S.Sink.held sink.old).meaning bytes.now result (S.Sink.held sink.new).meaning }
+    ensures large { 1048576 ≤ S.capacity }
+    ensures digests { Digests S.Sink.step S.start S.capacity S.answered (S.Sink.held sink.old).meaning bytes.now result (S.Sink.held sink.new).meaning }
 {
     sink.begin();
     sink.write(bytes)?;

@@ -1,4 +1,6 @@
 // Byte sinks: what takes strings of bytes in turn. Code that writes is generic over the sink and proved once.
+#![tactic(auto)]
+
 ghost use Rattle.std.specs.Prelude.{◌≡◌, ℕ, ◌^◌, ◌<◌, List, OnErr};
 ghost use Rattle.sink.specs.Digest.{Begins};
 ghost use Rattle.sink.specs.Write.{Held, Writes};

@@ -14,7 +14,7 @@ fn hex_digit(n: u8) -> u8
 
 // A byte as two digits of base 16, the high half first.
 fn write_pair<S: Sink>(sink: &mut S, b: u8) -> Result<(), Full>
-    ensures writes { Writes step (held sink.old) (pair b) result (held sink.new) }
+    ensures writes { Writes S.step (S.held sink.old) (pair b) result (S.held sink.new) }
     ensures same { OnErr result (sink.new ≡ sink.old) }
 {
     sink.write(&[hex_digit(b / 16), hex_digit(b % 16)])
@@ -22,8 +22,8 @@ fn write_pair<S: Sink>(sink: &mut S, b: u8) -> Result<(), Full>
 
 // Two digits of base 16 for each byte, each pair as one string; where they do not fit, as many whole pairs as do.
 pub fn write_hex<S: Sink>(sink: &mut S, bytes: &[u8]) -> Result<(), Full>
-    ensures writes { Writes step (held sink.old) (hex bytes.now) result (held sink.new) }
-    ensures pairs { OnErr result (Taken step (held sink.old) (take (2 * ((held sink.old).meaning.remaining / 2)) (hex bytes.now)) (held sink.new)) }
+    ensures writes { Writes S.step (S.held sink.old) (hex bytes.now) result (S.held sink.new) }
+    ensures pairs { OnErr result (Taken S.step (S.held sink.old) (take (2 * ((S.held sink.old).meaning.remaining / 2)) (hex bytes.now)) (S.held sink.new)) }
 {
     for b in bytes {
         write_pair(sink, *b)?;
@@ -50,7 +50,7 @@ fn digits_of(n: u64) -> ([u8; 20], usize)
 
 // A number in base 10, without leading zeros, as one string.
 pub fn write_decimal<S: Sink>(sink: &mut S, n: u64) -> Result<(), Full>
-    ensures writes { Writes step (held sink.old) (decimal n) result (held sink.new) }
+    ensures writes { Writes S.step (S.held sink.old) (decimal n) result (S.held sink.new) }
     ensures same { OnErr result (sink.new ≡ sink.old) }
 {
     let (digits, at) = digits_of(n);

@@ -9,7 +9,7 @@ pub loop-b-preserved : goal.loop-b-preserved
 loop-b-preserved c =
     let bs = c.args.bytes.now in
     let i = c.loop-b.b-index in
-    let n : c.one-more-at.result ≡ counted c.loop-b.at = c.one-more-at.ensures in (
+    let n : c.one_more-at.result ≡ counted c.loop-b.at = c.one_more-at.ensures in (
       ap (λ (v : ℕ). counts v (drop (i + 1) bs)) n ∙ sym (counts_more c.loop-b.at bs i c.loop-b-test.true) ∙ c.loop-b.invariant.0,
       ap (λ (v : ℕ). laid c.if-at-lt4096.table v (drop (i + 1) bs)) n
           ∙ elim c.if-at-lt4096.branch [

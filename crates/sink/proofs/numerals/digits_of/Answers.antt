@@ -5,14 +5,14 @@ use Rattle.sink.proofs.numerals.digits_of.Goals as goal
 pub loop-rest-init : goal.loop-rest-init
 loop-rest-init c = ends_none c.args.n _ (search rules) refl
 
-pub overflow-sub-at : goal.overflow-sub-at
-overflow-sub-at c = ends_some c.args.n c.loop-rest.digits c.loop-rest.at c.loop-rest.rest c.loop-rest.invariant
+pub overflow_sub-at : goal.overflow_sub-at
+overflow_sub-at c = ends_some c.args.n c.loop-rest.digits c.loop-rest.at c.loop-rest.rest c.loop-rest.invariant
 
 pub loop-rest-preserved : goal.loop-rest-preserved
 loop-rest-preserved c = ends_more c.args.n c.loop-rest.digits c.loop-rest.at c.loop-rest.rest _ (omega arith) refl c.loop-rest.invariant
 
-pub overflow-sub-at-2 : goal.overflow-sub-at-2
-overflow-sub-at-2 c = ends_some c.args.n c.loop-rest.digits c.loop-rest.at c.loop-rest.rest c.loop-rest.invariant
+pub overflow_sub-at-2 : goal.overflow_sub-at-2
+overflow_sub-at-2 c = ends_some c.args.n c.loop-rest.digits c.loop-rest.at c.loop-rest.rest c.loop-rest.invariant
 
 pub returns : goal.returns
 returns c = ends_all c.args.n c.loop-rest.digits c.loop-rest.at c.loop-rest.rest _ (omega arith) refl c.loop-rest.invariant

@@ -5,8 +5,8 @@ use Rattle.sink.proofs.numerals.write_decimal.Goals as goal
 
 pub returns : goal.returns
 returns g c =
-    let ds = c.digits-of-at.result.0 in
-    let at = c.digits-of-at.result.1 in
+    let ds = c.digits_of-at.result.0 in
+    let at = c.digits_of-at.result.1 in
     let wide : length ds ≡ 20 = search rules in
     let rest : take (20 - at) (drop at ds) ≡ drop at ds = take_all (20 - at) (drop at ds) (omega (arith, length-drop at ds)) in
-    record { writes = as_text (rest ∙ c.digits-of-at.ensures.1) c.write.ensures.writes; same = c.write.ensures.same }
+    record { writes = as_text (rest ∙ c.digits_of-at.ensures.1) c.write.ensures.writes; same = c.write.ensures.same }

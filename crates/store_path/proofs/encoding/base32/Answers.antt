@@ -10,7 +10,7 @@ loop-p-preserved c =
     let bs = c.args.bytes.now in
     let out = c.loop-p.out in
     let p = c.loop-p.p in
-    let is : c.digit.result ≡ character bs p = c.digit.ensures ∙ ap (λ (n : ℕ). get_or digits_32 n 0) c.five-at.ensures in (
+    let is : c.digit.result ≡ character bs p = c.digit.ensures ∙ ap (λ (n : ℕ). get_or digits_32 n 0) c.five_at.ensures in (
       length-set out p c.digit.result ∙ c.loop-p.invariant.0,
       λ k h. ap (λ (v : ℕ). get_or (set out p v) k 0) is ∙ fill_by_more (character bs) out p 0 (omega (arith, c.loop-p.invariant.0)) c.loop-p.invariant.1 k h,
     )

@@ -6,5 +6,5 @@ use Rattle.std.proofs.lemmas.Bool.Decides.{Decides-eqb}
 pub returns : goal.returns
 returns c =
     let s = c.args.s.now in
-    let e = ends_is Decides-eqb s (codes ".drv") c.ends-with.result c.ends-with.ensures.value in
+    let e = ends_is Decides-eqb s (codes ".drv") c.ends_with.result c.ends_with.ensures.value in
     (λ t. record { stem = take (length s - 4) s; whole = e.0 t }, λ d. e.1 d.stem d.whole)

@@ -20,4 +20,4 @@ returns-in-47 c =
     let b8 : get_or s 8 0 ≡ 114 = search rules in
     let b9 : get_or s 9 0 ≡ 101 = search rules in
     let b10 : get_or s 10 0 ≡ 47 = search rules in
-    apart_from s (λ (p : Parts). p.digits.now) (λ (p : Parts). p.name.now) _ c.base-parts.result (store_front s h b0 b1 b2 b3 b4 b5 b6 b7 b8 b9 b10) same c.base-parts.ensures
+    apart_from s (λ (p : Parts). p.digits.now) (λ (p : Parts). p.name.now) _ c.base_parts.result (store_front s h b0 b1 b2 b3 b4 b5 b6 b7 b8 b9 b10) same c.base_parts.ensures

@@ -1,4 +1,4 @@
-use Rattle.std.proofs.Common.{◌-◌, ◌^◌, refl, arith, rules}
+use Rattle.std.proofs.Common.{◌-◌, ◌^◌, refl, arith}
 use Rattle.sink.proofs.Counts.{numbered_taken, numbered_kept}
 use Rattle.sink.proofs.counter.CounterSink.write.Goals as goal
 
