@@ -1,5 +1,5 @@
 -- What the readers of a row's fields answer.
-use Rattle.std.proofs.Common.{◌≡◌, ℕ, ◌+◌, ◌≤◌, List, [], ◌∷◌, ◌++◌, length, drop, sym, ap, ◌∙◌, subst, append_assoc}
+use Rattle.std.proofs.Common.{◌≡◌, ℕ, ◌≤◌, List, [], ◌∷◌, ◌++◌, length, drop, sym, ap, ◌∙◌, subst, append_assoc}
 use Rattle.aterm.specs.declared.fault.Cause.{Cause}
 use Rattle.aterm.specs.Grammar.{Sign, byte, signs, Shape, Fields, field, Tree, Trees, opener, write, writes}
 use Rattle.aterm.specs.Reads.{Stops, Written, past, written_field}

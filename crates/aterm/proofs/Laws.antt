@@ -1,5 +1,5 @@
 -- How a stop in a part is a stop in the whole.
-use Rattle.std.proofs.Common.{◌≡◌, ℕ, zero, suc, ◌+◌, ◌-◌, ◌<◌, ◌≤◌, ◌⊎◌, List, [], ◌∷◌, ◌++◌, length, get_or, drop, sym, refl, ap, ◌∙◌, inl, inr, ⊎_elim, append_assoc, append-nil, add-one, arith, length-append, length-drop}
+use Rattle.std.proofs.Common.{◌≡◌, ℕ, zero, suc, ◌+◌, ◌<◌, ◌≤◌, ◌⊎◌, List, [], ◌∷◌, ◌++◌, length, get_or, drop, sym, refl, ap, ◌∙◌, inl, inr, ⊎_elim, append_assoc, append-nil, add-one, arith, length-append, length-drop}
 use Rattle.aterm.specs.declared.fault.Cause.{Cause}
 use Rattle.aterm.specs.declared.fault.Cause.TheVariants.{Byte, Row}
 use Rattle.aterm.specs.Grammar.{Sign, byte, end, signs}

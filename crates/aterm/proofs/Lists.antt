@@ -1,5 +1,5 @@
 -- What the readers of a row and of a list answer.
-use Rattle.std.proofs.Common.{◌≡◌, ℕ, zero, suc, pred, ◌+◌, ◌-◌, ◌<◌, ◌≤◌, ◌⊎◌, List, [], ◌∷◌, ◌++◌, length, get_or, drop, IfOk, Ok, Err, Result, sym, refl, ap, ◌∙◌, subst, ⊎_elim, append_assoc, append-nil, sub-one, arith, length-append}
+use Rattle.std.proofs.Common.{◌≡◌, ℕ, zero, suc, pred, ◌+◌, ◌-◌, ◌<◌, ◌≤◌, List, [], ◌∷◌, ◌++◌, length, get_or, drop, IfOk, Ok, Err, Result, sym, refl, ap, ◌∙◌, subst, ⊎_elim, append_assoc, append-nil, sub-one, arith, length-append}
 use Rattle.std.proofs.str.Laws.{order}
 use Rattle.aterm.specs.declared.fault.Cause.{Cause}
 use Rattle.aterm.specs.declared.fault.Cause.TheVariants.{Byte, Row}

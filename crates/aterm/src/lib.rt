@@ -1,4 +1,6 @@
 // The texts of derivations, read into the spans of their strings.
+#![tactic(auto)]
+
 mod fault;
 mod file;
 mod law;

@@ -1,6 +1,8 @@
 // Tables of rows, each with its place in the text.
 ghost use Rattle.std.specs.Prelude.{◌≡◌, ◌+◌, ◌<◌, ◌≤◌, [], ◌∷◌, ◌++◌, take};
 
+use std::alloc::AllocError;
+
 // A row, and the place of its first byte in the text.
 #[derive(Clone, Copy)]
 pub struct Placed<T> {
@@ -9,12 +11,23 @@ pub struct Placed<T> {
 }
 
 // At most N rows: the first `len` of `items`. The items after those are of no meaning.
-#[derive(Clone, Copy)]
 pub struct Rows<T, const N: usize> {
     pub items: [Placed<T>; N],
     pub len: usize,
     ghost fits: { len ≤ N },
 }
+
+impl<T: Copy, const N: usize> Clone for Rows<T, N> {
+    ghost is_clone = { λ x y. y ≡ x };
+
+    ghost is_infallible = { λ _. Unit {0} };
+
+    fn clone(&self) -> Result<Rows<T, N>, AllocError> {
+        Ok(*self)
+    }
+}
+
+impl<T: Copy, const N: usize> Copy for Rows<T, N> {}
 
 impl<T: Copy, const N: usize> Rows<T, N> {
     // No rows; `blank` fills the room.

@@ -1,5 +1,5 @@
 -- The steps of the loops over a block.
-use Rattle.std.proofs.Common.{◌≡◌, ℕ, zero, suc, ◌+◌, ◌-◌, ◌*◌, ◌<◌, ◌≤◌, Bool, true, false, cond, ltb, List, [], ◌∷◌, ◌++◌, length, get_or, take, set, sym, refl, ap, ◌∙◌, subst, add-zero, add-one, arith, le-ltb, lt-ltb}
+use Rattle.std.proofs.Common.{◌≡◌, ℕ, ◌+◌, ◌-◌, ◌<◌, ◌≤◌, cond, List, [], ◌∷◌, ◌++◌, length, get_or, take, set, sym, refl, ap, ◌∙◌, subst, add-one, arith, le-ltb, lt-ltb}
 use Rattle.std.proofs.lemmas.List.{take_more_set, get_or-take, take_all}
 use Rattle.sha256.specs.Fips.{add32, σ0, σ1, word_at, mixed, nextWord, schedule, round, rounds, K}
 

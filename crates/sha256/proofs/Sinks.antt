@@ -1,8 +1,8 @@
 -- What a hasher means as a sink after begin, after a string that it took, and after one that it refused.
-use Rattle.std.proofs.Common.{◌≡◌, ℕ, ◌+◌, ◌-◌, ◌%◌, ◌^◌, ◌<◌, ◌≤◌, List, [], length, drop, Ok, Err, Result, sym, refl, ap, ◌∙◌, arith, MatchResult}
+use Rattle.std.proofs.Common.{◌≡◌, ℕ, ◌+◌, ◌-◌, ◌%◌, ◌^◌, ◌<◌, ◌≤◌, List, [], length, Ok, Err, Result, sym, refl, ap, ◌∙◌, arith, MatchResult}
 use Rattle.std.proofs.lemmas.List.{drop_all}
 use Rattle.sink.specs.Digest.{Begins, Digests}
-use Rattle.sink.specs.Write.{Meaning, Held, steps, filled, Taken, Stopped}
+use Rattle.sink.specs.Write.{Meaning, steps, filled, Taken, Stopped}
 use Rattle.sink.proofs.Writing.{meant, parts, kept}
 use Rattle.sha256.specs.Fips.{H0, digest}
 use Rattle.sha256.specs.Hashing.{laid, start, step, answer, held}

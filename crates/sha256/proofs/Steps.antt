@@ -1,7 +1,7 @@
 -- Steps byte by byte, and the blocks that they come to.
-use Rattle.std.proofs.Common.{◌≡◌, ℕ, zero, suc, ◌+◌, ◌-◌, ◌*◌, ◌/◌, ◌%◌, ◌<◌, ◌≤◌, Bool, true, false, cond, eqb, List, [], ◌∷◌, ◌++◌, length, get_or, take, drop, sym, refl, ap, ◌∙◌, subst, append_assoc, append-nil, add-zero, add_assoc, suc-add, zero-add, arith, eq-eqb, ne_eqb}
+use Rattle.std.proofs.Common.{◌≡◌, ℕ, zero, suc, ◌+◌, ◌-◌, ◌*◌, ◌/◌, ◌%◌, ◌<◌, ◌≤◌, cond, List, [], ◌∷◌, ◌++◌, length, get_or, take, drop, sym, refl, ap, ◌∙◌, append_assoc, append-nil, add-zero, suc-add, zero-add, arith, eq-eqb, ne_eqb}
 use Rattle.std.proofs.lemmas.List.{take_at, drop_at, get_or_at, drop-drop, take-append-le, drop-append-le, length-drop, length-take-le, length-append, take-append-drop, length_push, nil_from_length, take_rest}
-use Rattle.sha256.specs.Fips.{H0, block, added, blocks, tail, spelled, digest}
+use Rattle.sha256.specs.Fips.{H0, block, blocks, tail, spelled, digest}
 use Rattle.sink.specs.Write.{steps}
 use Rattle.sha256.specs.Bytes.{wrote}
 use Rattle.sha256.specs.Hashing.{laid, stepped, step, start, finished, answer}

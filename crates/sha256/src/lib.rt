@@ -1,4 +1,6 @@
 // SHA-256 as a digest sink, proved against FIPS 180-4.
+#![tactic(auto)]
+
 mod block;
 mod hasher;
 mod padding;

@@ -1,5 +1,5 @@
 -- A store path by its bytes.
-use Rattle.std.proofs.Common.{◌≡◌, ℕ, ◌+◌, ◌<◌, ◌≤◌, Bool, List, [], ◌∷◌, ◌++◌, length, get_or, take, drop, is_some, Some, None, codes, Decides, Option, sym, refl, ap, ◌∙◌, subst, arith, length-append, take-append-drop, length-take-le, drop-cons, get_or-take, MatchOption}
+use Rattle.std.proofs.Common.{◌≡◌, ℕ, ◌<◌, ◌≤◌, Bool, List, [], ◌∷◌, ◌++◌, length, get_or, take, drop, is_some, Some, None, codes, Decides, Option, sym, refl, ap, ◌∙◌, subst, arith, length-append, take-append-drop, length-take-le, drop-cons, get_or-take, MatchOption}
 use Rattle.std.specs.List.{ContainsAt as Has, AllByRecursion as All}
 use Rattle.std.proofs.lemmas.Bool.{false≢true}
 use Rattle.std.proofs.lemmas.Slice.Eq.{text_from_reads}

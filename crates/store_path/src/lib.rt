@@ -1,4 +1,6 @@
 // Store paths: names, the digits of base 32, and the fold of a digest.
+#![tactic(auto)]
+
 mod encoding;
 mod names;
 

@@ -9,7 +9,7 @@ pub returns : goal.returns
 returns g c = λ from xs a.
     let s = g.Q.Ask.shape in
     let yes = g.Q.Ask.yes c.args.ask.now in
-    let r = c.is-none.result in
-    let o = c.first-no.result in
+    let r = c.is_none.result in
+    let o = c.first_no.result in
     Decides-like r (to_throughout s yes 0 from [] xs) (from_throughout s yes 0 from [] xs)
-    (Decides-at r (not (is_some o)) (flip (is_some o) r c.is-none.ensures) (first_decides (λ e. yes e.0 e.1) (rows_at s 0 from [] xs) o (c.first-no.ensures from xs a)))
+    (Decides-at r (not (is_some o)) (flip (is_some o) r c.is_none.ensures) (first_decides (λ e. yes e.0 e.1) (rows_at s 0 from [] xs) o (c.first_no.ensures from xs a)))

@@ -9,26 +9,26 @@ use Rattle.derivation.proofs.file.ask_formed.Goals as goal
 pub returns-in-Some : goal.returns-in-Some
 returns-in-Some c = λ x h.
     let t = c.args.text.now in
-    let o = subst (λ vs. Each output (in_output t) 8 vs x.0) (sym c.as-slice.ensures) h.0 in
+    let o = subst (λ vs. Each output (in_output t) 8 vs x.0) (sym c.as_slice.ensures) h.0 in
     no_output x formed tt c.in-Some.spot (c.in-Some.ensures 8 x.0 o)
 
-pub returns-in-Some-first-no : goal.returns-in-Some-first-no
-returns-in-Some-first-no c = λ x h.
+pub returns-in-Some-first_no : goal.returns-in-Some-first_no
+returns-in-Some-first_no c = λ x h.
     let t = c.args.text.now in
-    let o = subst (λ vs. Each output (in_output t) 8 vs x.0) (sym c.as-slice.ensures) h.0 in
-    let i = subst (λ vs. Each input (in_input t) (place_2 x + 1) vs x.1.0) (sym c.as-slice-2.ensures) h.1.0 in
-    no_input x formed tt (c.in-default.ensures 8 x.0 o) c.in-Some-first-no.spot (c.in-Some-first-no.ensures (place_2 x + 1) x.1.0 i)
+    let o = subst (λ vs. Each output (in_output t) 8 vs x.0) (sym c.as_slice.ensures) h.0 in
+    let i = subst (λ vs. Each input (in_input t) (place_2 x + 1) vs x.1.0) (sym c.as_slice-2.ensures) h.1.0 in
+    no_input x formed tt (c.in_default.ensures 8 x.0 o) c.in-Some-first_no.spot (c.in-Some-first_no.ensures (place_2 x + 1) x.1.0 i)
 
-pub first-no-requires-3 : goal.first-no-requires-3
-first-no-requires-3 c =
+pub first_no-requires-3 : goal.first_no-requires-3
+first_no-requires-3 c =
     let x = c.requires.0 in
     let t = c.args.text.now in
-    (place_3 x + 1, x.1.1.0, subst (λ vs. Each string (λ p v. span t v p) (place_3 x + 1) vs x.1.1.0) (sym c.as-slice-3.ensures) c.requires.1.1.1.0)
+    (place_3 x + 1, x.1.1.0, subst (λ vs. Each string (λ p v. span t v p) (place_3 x + 1) vs x.1.1.0) (sym c.as_slice-3.ensures) c.requires.1.1.1.0)
 
 pub returns : goal.returns
 returns c = λ x h.
     let t = c.args.text.now in
-    let o = subst (λ vs. Each output (in_output t) 8 vs x.0) (sym c.as-slice.ensures) h.0 in
-    let i = subst (λ vs. Each input (in_input t) (place_2 x + 1) vs x.1.0) (sym c.as-slice-2.ensures) h.1.0 in
-    let s = subst (λ vs. Each string (λ p v. span t v p) (place_3 x + 1) vs x.1.1.0) (sym c.as-slice-3.ensures) h.1.1.0 in
-    by_sources x formed tt (c.in-default.ensures 8 x.0 o) (c.in-default-first-no.ensures (place_2 x + 1) x.1.0 i) (λ e. tt) c.first-no-3.result (c.first-no-3.ensures (place_3 x + 1) x.1.1.0 s)
+    let o = subst (λ vs. Each output (in_output t) 8 vs x.0) (sym c.as_slice.ensures) h.0 in
+    let i = subst (λ vs. Each input (in_input t) (place_2 x + 1) vs x.1.0) (sym c.as_slice-2.ensures) h.1.0 in
+    let s = subst (λ vs. Each string (λ p v. span t v p) (place_3 x + 1) vs x.1.1.0) (sym c.as_slice-3.ensures) h.1.1.0 in
+    by_sources x formed tt (c.in_default.ensures 8 x.0 o) (c.in_default-first_no.ensures (place_2 x + 1) x.1.0 i) (λ e. tt) c.first_no-3.result (c.first_no-3.ensures (place_3 x + 1) x.1.1.0 s)

@@ -7,18 +7,18 @@ use Rattle.derivation.proofs.Held.{held_empty}
 use Rattle.derivation.proofs.Files.{present_none, present_inputs}
 use Rattle.derivation.proofs.file.ask_present.Goals as goal
 
-pub returns-then-is-empty : goal.returns-then-is-empty
-returns-then-is-empty c = λ x h.
-    let o = subst (λ vs. Each output (in_output c.args.text.now) 8 vs x.0) (sym c.as-slice.ensures) h.0 in
-    present_none x ((held_empty output (in_output c.args.text.now) 8 c.as-slice.result.now x.0 o c.is-empty.result c.is-empty.ensures).0 c.if-is-empty.true)
+pub returns-then-is_empty : goal.returns-then-is_empty
+returns-then-is_empty c = λ x h.
+    let o = subst (λ vs. Each output (in_output c.args.text.now) 8 vs x.0) (sym c.as_slice.ensures) h.0 in
+    present_none x ((held_empty output (in_output c.args.text.now) 8 c.as_slice.result.now x.0 o c.is_empty.result c.is_empty.ensures).0 c.if-is_empty.true)
 
-pub first-no-requires : goal.first-no-requires
-first-no-requires c =
+pub first_no-requires : goal.first_no-requires
+first_no-requires c =
     let x = c.requires.0 in
-    (place_2 x + 1, x.1.0, subst (λ vs. Each input (in_input c.args.text.now) (place_2 x + 1) vs x.1.0) (sym c.as-slice-2.ensures) c.requires.1.1.0)
+    (place_2 x + 1, x.1.0, subst (λ vs. Each input (in_input c.args.text.now) (place_2 x + 1) vs x.1.0) (sym c.as_slice-2.ensures) c.requires.1.1.0)
 
 pub returns : goal.returns
 returns c = λ x h.
-    let o = subst (λ vs. Each output (in_output c.args.text.now) 8 vs x.0) (sym c.as-slice.ensures) h.0 in
-    let i = subst (λ vs. Each input (in_input c.args.text.now) (place_2 x + 1) vs x.1.0) (sym c.as-slice-2.ensures) h.1.0 in
-    present_inputs x (not_from_Decides c.is-empty.result (held_empty output (in_output c.args.text.now) 8 c.as-slice.result.now x.0 o c.is-empty.result c.is-empty.ensures) c.if-is-empty.false) c.first-no.result (c.first-no.ensures (place_2 x + 1) x.1.0 i)
+    let o = subst (λ vs. Each output (in_output c.args.text.now) 8 vs x.0) (sym c.as_slice.ensures) h.0 in
+    let i = subst (λ vs. Each input (in_input c.args.text.now) (place_2 x + 1) vs x.1.0) (sym c.as_slice-2.ensures) h.1.0 in
+    present_inputs x (not_from_Decides c.is_empty.result (held_empty output (in_output c.args.text.now) 8 c.as_slice.result.now x.0 o c.is_empty.result c.is_empty.ensures) c.if-is_empty.false) c.first_no.result (c.first_no.ensures (place_2 x + 1) x.1.0 i)

@@ -7,19 +7,19 @@ use Rattle.derivation.proofs.Held.{name_lengths}
 use Rattle.derivation.proofs.Files.{first_like, outputs_only}
 use Rattle.derivation.proofs.file.ask_short.Goals as goal
 
-pub first-no-requires : goal.first-no-requires
-first-no-requires c =
+pub first_no-requires : goal.first_no-requires
+first_no-requires c =
     let x = c.requires.0 in
-    (8, x.0, subst (λ vs. Each output (in_output c.args.text.now) 8 vs x.0) (sym c.as-slice.ensures) c.requires.1.0)
+    (8, x.0, subst (λ vs. Each output (in_output c.args.text.now) 8 vs x.0) (sym c.as_slice.ensures) c.requires.1.0)
 
 pub returns : goal.returns
 returns c = λ x h.
-    let o = subst (λ vs. Each output (in_output c.args.text.now) 8 vs x.0) (sym c.as-slice.ensures) h.0 in
+    let o = subst (λ vs. Each output (in_output c.args.text.now) 8 vs x.0) (sym c.as_slice.ensures) h.0 in
     let path = c.args.path.now in
-    let n = c.saturating-sub-stem.result in
-    let same : (out : List ℕ) → length (output_name path out) ≡ name_length n out = λ out. name_lengths path out ∙ ap (λ k. name_length k out) (sym c.saturating-sub-stem.ensures) in
-    outputs_only x (short path) tt (λ e. tt) (λ e. tt) (λ e. tt) c.first-no.result
+    let n = c.saturating_sub-stem.result in
+    let same : (out : List ℕ) → length (output_name path out) ≡ name_length n out = λ out. name_lengths path out ∙ ap (λ k. name_length k out) (sym c.saturating_sub-stem.ensures) in
+    outputs_only x (short path) tt (λ e. tt) (λ e. tt) (λ e. tt) c.first_no.result
     (first_like (λ e. name_length n (raw e.1.0) ≤ 211) (λ e. length (output_name path (raw e.1.0)) ≤ 211)
     (λ e. subst (λ k. k ≤ 211) (sym (same (raw e.1.0))))
     (λ e. subst (λ k. k ≤ 211) (same (raw e.1.0)))
-    (output_rows x) c.first-no.result (c.first-no.ensures 8 x.0 o))
+    (output_rows x) c.first_no.result (c.first_no.ensures 8 x.0 o))

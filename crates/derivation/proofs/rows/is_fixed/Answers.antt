@@ -9,6 +9,6 @@ pub returns : goal.returns
 returns c = λ from xs a.
     let vs = c.args.outputs.now in
     let one = eqb (length vs) 1 in
-    let rest = c.all-yes.result in
+    let rest = c.all_yes.result in
     Decides-like (one && rest) (fixed_from xs) (fixed_to xs)
-    (Decides-and one rest (subst (λ n. Decides one (n ≡ 1)) (each_length output (in_output c.args.text.now) from vs xs a) (Decides-eqb (length vs) 1)) (c.all-yes.ensures from xs a))
+    (Decides-and one rest (subst (λ n. Decides one (n ≡ 1)) (each_length output (in_output c.args.text.now) from vs xs a) (Decides-eqb (length vs) 1)) (c.all_yes.ensures from xs a))

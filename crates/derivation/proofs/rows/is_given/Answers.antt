@@ -5,9 +5,9 @@ use Rattle.derivation.proofs.rows.is_given.Goals as goal
 
 pub returns : goal.returns
 returns c =
-    let p = c.is-called.result in
-    let q = c.is-called-2.result in
-    let r = c.is-called-3.result in
-    let s = c.is-called-4.result in
+    let p = c.is_called.result in
+    let q = c.is_called-2.result in
+    let r = c.is_called-3.result in
+    let s = c.is_called-4.result in
     Decides-like (((p || q) || r) || s) (given_from c.args.algorithm.now c.args.hash.now) (given_to c.args.algorithm.now c.args.hash.now)
-    (Decides-or ((p || q) || r) s (Decides-or (p || q) r (Decides-or p q c.is-called.ensures c.is-called-2.ensures) c.is-called-3.ensures) c.is-called-4.ensures)
+    (Decides-or ((p || q) || r) s (Decides-or (p || q) r (Decides-or p q c.is_called.ensures c.is_called-2.ensures) c.is_called-3.ensures) c.is_called-4.ensures)

@@ -2,32 +2,32 @@ use Rattle.std.proofs.Common.{arith, rules}
 use Rattle.image.specs.Chain.{Good}
 use Rattle.image.proofs.Chains.{room, test_good, test_bad, walk_none, walk_more}
 use Rattle.image.proofs.chain.follow.Goals as goal
-use Rattle.image.proofs.chain.follow.Goals.{Else-not-may-follow}
+use Rattle.image.proofs.chain.follow.Goals.{Else-not-may_follow}
 
 -- the index may follow, so that one more slot fits the table
-good : (c : Else-not-may-follow) → Good c.args.bytes.now c.loop-index.n
+good : (c : Else-not-may_follow) → Good c.args.bytes.now c.loop-index.n
 good c =
-    test_good c.args.bytes.now c.loop-index.slots c.loop-index.n c.loop-index.slot c.loop-index.index c.le16-at-count.result c.may-follow.result
-    c.requires.1 c.loop-index.invariant.0 (omega (arith, c.loop-index-test.true)) c.loop-index.invariant.1 c.le16-at-count.ensures c.may-follow.ensures c.if-not-may-follow.false
+    test_good c.args.bytes.now c.loop-index.slots c.loop-index.n c.loop-index.slot c.loop-index.index c.le16_at-count.result c.may_follow.result
+    c.requires.1 c.loop-index.invariant.0 (omega (arith, c.loop-index-test.true)) c.loop-index.invariant.1 c.le16_at-count.ensures c.may_follow.ensures c.if-not-may_follow.false
 
 pub loop-index-init : goal.loop-index-init
-loop-index-init c = (walk_none c.args.bytes.now _ _ (search rules) c.le16-at-index.ensures, omega arith)
+loop-index-init c = (walk_none c.args.bytes.now _ _ (search rules) c.le16_at-index.ensures, omega arith)
 
-pub returns-then-not-may-follow : goal.returns-then-not-may-follow
-returns-then-not-may-follow c =
-    test_bad c.args.bytes.now c.loop-index.slots c.loop-index.n c.loop-index.slot c.loop-index.index c.le16-at-count.result c.may-follow.result
-    c.requires.1 c.loop-index.invariant.0 (omega (arith, c.loop-index-test.true)) c.loop-index.invariant.1 c.le16-at-count.ensures c.may-follow.ensures c.if-not-may-follow.true
+pub returns-then-not-may_follow : goal.returns-then-not-may_follow
+returns-then-not-may_follow c =
+    test_bad c.args.bytes.now c.loop-index.slots c.loop-index.n c.loop-index.slot c.loop-index.index c.le16_at-count.result c.may_follow.result
+    c.requires.1 c.loop-index.invariant.0 (omega (arith, c.loop-index-test.true)) c.loop-index.invariant.1 c.le16_at-count.ensures c.may_follow.ensures c.if-not-may_follow.true
 
 pub bounds-slots-n : goal.bounds-slots-n
 bounds-slots-n c = omega (arith, room c.args.bytes.now c.loop-index.n c.loop-index.invariant.0.good (good c), c.requires.1.few)
 
 pub loop-index-smaller : goal.loop-index-smaller
-loop-index-smaller c = omega (arith, room c.args.bytes.now c.loop-index.n c.loop-index.invariant.0.good (good (goal.at.loop-index-smaller c).Else-not-may-follow), c.requires.1.few)
+loop-index-smaller c = omega (arith, room c.args.bytes.now c.loop-index.n c.loop-index.invariant.0.good (good (goal.at.loop-index-smaller c).Else-not-may_follow), c.requires.1.few)
 
 pub loop-index-preserved : goal.loop-index-preserved
 loop-index-preserved c =
-    let g = good (goal.at.loop-index-preserved c).Else-not-may-follow in
+    let g = good (goal.at.loop-index-preserved c).Else-not-may_follow in
     let h = room c.args.bytes.now c.loop-index.n c.loop-index.invariant.0.good g in (
-      walk_more c.args.bytes.now c.loop-index.slots c.loop-index.n c.loop-index.slot c.loop-index.index _ (omega (arith, h, c.requires.1.few)) c.loop-index.invariant.0 g c.next-of-index.ensures,
+      walk_more c.args.bytes.now c.loop-index.slots c.loop-index.n c.loop-index.slot c.loop-index.index _ (omega (arith, h, c.requires.1.few)) c.loop-index.invariant.0 g c.next_of-index.ensures,
       omega (arith, h, c.requires.1.few),
     )

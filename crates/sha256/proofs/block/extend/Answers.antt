@@ -1,4 +1,4 @@
-use Rattle.std.proofs.Common.{◌<◌, length, arith, rules}
+use Rattle.std.proofs.Common.{arith, rules}
 use Rattle.sha256.proofs.Blocks.{schedule_more, late}
 use Rattle.sha256.proofs.block.extend.Goals as goal
 

@@ -12,6 +12,6 @@ returns c =
     let lp : length (take f kept) ≡ f = length-take-le f kept (omega arith) in
     let same : f - 0 ≡ f = omega arith in (
       omega arith,
-      last_is (take f kept) c.to-be-bytes-bits.result c.put.new.dst _ c.put-2.new.dst 128 c.args.count _ refl (omega arith) (omega arith) c.to-be-bytes-bits.ensures
+      last_is (take f kept) c.to_be_bytes-bits.result c.put.new.dst _ c.put-2.new.dst 128 c.args.count _ refl (omega arith) (omega arith) c.to_be_bytes-bits.ensures
           (c.put.ensures ∙ ap (λ k. wrote (replicate 128 0) 0 (take k kept)) same) (ap (λ k. set c.put.new.dst k 128) (sym lp)) c.put-2.ensures,
     )

@@ -8,4 +8,4 @@ returns c =
     let at = c.args.at in
     let n = length c.args.src.now in
     let past : at + (at + n - at) ≡ at + n = omega arith in
-    λ i. take at d ++ (c.copy-from-slice.ensures.after i ++ (drop-drop (at + n - at) at d ∙ ap (λ k. drop k d) past) i)
+    λ i. take at d ++ (c.copy_from_slice.ensures.after i ++ (drop-drop (at + n - at) at d ∙ ap (λ k. drop k d) past) i)

@@ -7,6 +7,6 @@ use Rattle.derivation.proofs.formed.FormedNameAskSpan.says.Goals as goal
 pub returns : goal.returns
 returns c = λ from xs at x a h.
     let e = c.cut-name.ensures _ x h in
-    Decides-and c.is-plain.result c.is-name.result
-    (subst (λ b. Decides c.is-plain.result (Plain b)) e c.is-plain.ensures.plain)
-    (subst (λ b. Decides c.is-name.result (Name b)) e c.is-name.ensures)
+    Decides-and c.is_plain.result c.is_name.result
+    (subst (λ b. Decides c.is_plain.result (Plain b)) e c.is_plain.ensures.plain)
+    (subst (λ b. Decides c.is_name.result (Name b)) e c.is_name.ensures)

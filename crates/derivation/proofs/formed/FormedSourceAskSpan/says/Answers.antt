@@ -7,6 +7,6 @@ use Rattle.derivation.proofs.formed.FormedSourceAskSpan.says.Goals as goal
 pub returns : goal.returns
 returns c = λ from xs at x a h.
     let e = c.cut-path.ensures _ x h in
-    Decides-and c.is-plain.result c.is-store-path.result
-    (subst (λ b. Decides c.is-plain.result (Plain b)) e c.is-plain.ensures.plain)
-    (subst (λ b. Decides c.is-store-path.result (StorePath b)) e c.is-store-path.ensures)
+    Decides-and c.is_plain.result c.is_store_path.result
+    (subst (λ b. Decides c.is_plain.result (Plain b)) e c.is_plain.ensures.plain)
+    (subst (λ b. Decides c.is_store_path.result (StorePath b)) e c.is_store_path.ensures)

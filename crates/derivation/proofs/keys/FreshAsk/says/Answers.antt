@@ -22,19 +22,19 @@ loop-y-preserved g c = λ from xs at x a h.
     let r = split s (g.T.Keyed.holds t) from c.args.earlier.now xs c.loop-y.y-index c.loop-y-test.true c.y-item.result c.y-item.is a in
     let k = c.key-in-loop-y.ensures t _ r.x r.held in
     let m = c.key.ensures t at x h in
-    let d = keys_decide c.cut-other.result.now c.cut-mine.result.now (label r.x) (label x) (c.cut-other.ensures k.0 (label r.x) k.1) (c.cut-mine.ensures m.0 (label x) m.1) c.same-meaning.result c.same-meaning.ensures in
-    rw add-one (fresh_more s (g.T.Keyed.holds t) label x from c.args.earlier.now xs c.loop-y.y-index c.y-item.result r (c.loop-y.invariant from xs at x a h) (not_from_Decides c.same-meaning.result d c.if-same-meaning.false))
+    let d = keys_decide c.cut-other.result.now c.cut-mine.result.now (label r.x) (label x) (c.cut-other.ensures k.0 (label r.x) k.1) (c.cut-mine.ensures m.0 (label x) m.1) c.same_meaning.result c.same_meaning.ensures in
+    rw add-one (fresh_more s (g.T.Keyed.holds t) label x from c.args.earlier.now xs c.loop-y.y-index c.y-item.result r (c.loop-y.invariant from xs at x a h) (not_from_Decides c.same_meaning.result d c.if-same_meaning.false))
 
-pub returns-then-same-meaning : goal.returns-then-same-meaning
-returns-then-same-meaning g c = λ from xs at x a h.
+pub returns-then-same_meaning : goal.returns-then-same_meaning
+returns-then-same_meaning g c = λ from xs at x a h.
     let s = g.T.Keyed.shape in
     let t = c.args.text.now in
     let label = g.T.Keyed.label in
     let r = split s (g.T.Keyed.holds t) from c.args.earlier.now xs c.loop-y.y-index c.loop-y-test.true c.y-item.result c.y-item.is a in
     let k = c.key-in-loop-y.ensures t _ r.x r.held in
     let m = c.key.ensures t at x h in
-    let d = keys_decide c.cut-other.result.now c.cut-mine.result.now (label r.x) (label x) (c.cut-other.ensures k.0 (label r.x) k.1) (c.cut-mine.ensures m.0 (label x) m.1) c.same-meaning.result c.same-meaning.ensures in
-    (λ e. absurd (false≢true e), λ f. absurd (not_fresh s (g.T.Keyed.holds t) label x from c.args.earlier.now xs c.loop-y.y-index c.y-item.result r (d.0 c.if-same-meaning.true) f))
+    let d = keys_decide c.cut-other.result.now c.cut-mine.result.now (label r.x) (label x) (c.cut-other.ensures k.0 (label r.x) k.1) (c.cut-mine.ensures m.0 (label x) m.1) c.same_meaning.result c.same_meaning.ensures in
+    (λ e. absurd (false≢true e), λ f. absurd (not_fresh s (g.T.Keyed.holds t) label x from c.args.earlier.now xs c.loop-y.y-index c.y-item.result r (d.0 c.if-same_meaning.true) f))
 
 pub returns : goal.returns
 returns g c = λ from xs at x a h.

@@ -6,9 +6,9 @@ use Rattle.derivation.proofs.rows.ColumnsAskOutput.says.Goals as goal
 
 pub returns : goal.returns
 returns c = λ from xs at x a h.
-    let none = c.is-empty.result in
-    let no_hash = c.is-empty-2.result in
+    let none = c.is_empty.result in
+    let no_hash = c.is_empty-2.result in
     Decides-or c.args.self.now.fixed (none && no_hash) (decides_is c.args.self.now.fixed)
     (Decides-and none no_hash
-    (cut_empty c.cut-algorithm.result.now (raw x.1.1.0) (c.cut-algorithm.ensures _ x.1.1.0 h.1.1.0) none c.is-empty.ensures)
-    (cut_empty c.cut-hash.result.now (raw x.1.1.1) (c.cut-hash.ensures _ x.1.1.1 h.1.1.1) no_hash c.is-empty-2.ensures))
+    (cut_empty c.cut-algorithm.result.now (raw x.1.1.0) (c.cut-algorithm.ensures _ x.1.1.0 h.1.1.0) none c.is_empty.ensures)
+    (cut_empty c.cut-hash.result.now (raw x.1.1.1) (c.cut-hash.ensures _ x.1.1.1 h.1.1.1) no_hash c.is_empty-2.ensures))

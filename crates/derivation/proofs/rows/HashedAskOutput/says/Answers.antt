@@ -9,6 +9,6 @@ returns c = λ from xs at x a h.
     let name = c.cut-name.ensures _ x.0 h.0 in
     let algorithm = c.cut-algorithm.ensures _ x.1.1.0 h.1.1.0 in
     let hash = c.cut-hash.ensures _ x.1.1.1 h.1.1.1 in
-    Decides-and c.same.result c.is-given.result
+    Decides-and c.same.result c.is_given.result
     (subst (λ b. Decides c.same.result (b ≡ codes "out")) name c.same.ensures)
-    (subst (λ b. Decides c.is-given.result (Given b (raw x.1.1.1))) algorithm (subst (λ b. Decides c.is-given.result (Given c.cut-algorithm.result.now b)) hash c.is-given.ensures))
+    (subst (λ b. Decides c.is_given.result (Given b (raw x.1.1.1))) algorithm (subst (λ b. Decides c.is_given.result (Given c.cut-algorithm.result.now b)) hash c.is_given.ensures))

@@ -2,5 +2,5 @@ use Rattle.std.proofs.Common.{refl, arith}
 use Rattle.image.proofs.Opened.{opens_empty}
 use Rattle.image.proofs.image.Image.empty.Goals as goal
 
-pub invariant-of-result : goal.invariant-of-result
-invariant-of-result c = (refl, (λ m h. absurd (omega arith), (∣ opens_empty ∣₁, tt)))
+pub invariant_of-result : goal.invariant_of-result
+invariant_of-result c = (refl, (λ m h. absurd (omega arith), (∣ opens_empty ∣₁, tt)))

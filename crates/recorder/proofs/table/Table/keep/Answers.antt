@@ -5,4 +5,4 @@ use Rattle.recorder.proofs.table.Table.keep.Goals as goal
 pub invariant_of-self : goal.invariant_of-self
 invariant_of-self c =
     let table = c.args.self.now in
-    (ap length c.lay-self.ensures.table ∙ length_laid table.bytes table.count c.args.bytes.now ∙ table.long, tt)
+    record { long = ap length c.lay-self.ensures.table ∙ length_laid table.bytes table.count c.args.bytes.now ∙ table.long }
