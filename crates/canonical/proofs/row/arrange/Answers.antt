@@ -16,6 +16,6 @@ returns g c =
     let t = c.args.text.now in
     let k = g.T.Canon.kind in
     let n = c.args.count in
-    λ m. arranged_rows k (g.T.Canon.value t) m (take n c.args.rows.now) (take n c.loop-i.rows) (take n c.sort-rows.new.rows)
+    λ m. arranged_rows k (g.T.Canon.value t) m (take n c.args.rows.now) (take n c.loop-i.rows) (take n c.sort_rows.new.rows)
     (partway_first (Moves k (g.T.Canon.value t)) c.args.rows.now c.loop-i.rows c.loop-i.i c.loop-i.invariant n c.loop-i-test.false)
-    c.sort-rows.ensures.shuffled c.sort-rows.ensures.level
+    c.sort_rows.ensures.shuffled c.sort_rows.ensures.level

@@ -6,12 +6,12 @@ use Rattle.canonical.proofs.row.write_rests.Goals as goal
 pub loop-row-preserved : goal.loop-row-preserved
 loop-row-preserved g c =
     leads_more (comma (λ v. canon g.T.Canon.kind (g.T.Canon.value c.args.text.now v))) c.args.rows.now [] c.loop-row.row-index c.row-item.result c.loop-row-test.true c.loop-row.invariant
-    (as_text (ap (comma (λ v. canon g.T.Canon.kind (g.T.Canon.value c.args.text.now v))) c.row-item.is) c.in-ok-write-after.ensures)
+    (as_text (ap (comma (λ v. canon g.T.Canon.kind (g.T.Canon.value c.args.text.now v))) c.row-item.is) c.in_ok-write_after.ensures)
 
-pub returns-in-err-write-after : goal.returns-in-err-write-after
-returns-in-err-write-after g c =
+pub returns-in_err-write_after : goal.returns-in_err-write_after
+returns-in_err-write_after g c =
     unpadded (leads_stop (comma (λ v. canon g.T.Canon.kind (g.T.Canon.value c.args.text.now v))) c.args.rows.now [] c.loop-row.row-index c.row-item.result c.loop-row-test.true c.loop-row.invariant
-    (as_text (ap (comma (λ v. canon g.T.Canon.kind (g.T.Canon.value c.args.text.now v))) c.row-item.is) c.in-err-write-after.ensures) c.from-residual.ensures.0)
+    (as_text (ap (comma (λ v. canon g.T.Canon.kind (g.T.Canon.value c.args.text.now v))) c.row-item.is) c.in_err-write_after.ensures) c.from_residual.ensures.0)
 
 pub returns : goal.returns
 returns g c =

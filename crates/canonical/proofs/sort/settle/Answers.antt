@@ -4,8 +4,8 @@ use Rattle.canonical.specs.Kinds.{key}
 use Rattle.canonical.proofs.Sorting.{placing_done, placing_step, seen, unseen, not_less}
 use Rattle.canonical.proofs.sort.settle.Goals as goal
 
-pub returns-in-default : goal.returns-in-default
-returns-in-default g c =
+pub returns-in_default : goal.returns-in_default
+returns-in_default g c =
     let t = c.args.text.now in
     let xs = c.loop-j.rows in
     let j = c.loop-j.j in
@@ -17,7 +17,7 @@ returns-in-default g c =
     record {
       shuffled = c.loop-j.invariant.shuffled;
       sorted = placing_done c.loop-j.invariant (inr (unseen (λ v. key g.T.Canon.kind (g.T.Canon.value t v)) xs j (j - 1) x y refl refl n m (get_or_default xs j c.index-rows-j-in-loop-j.result x n) (get_or_default xs (j - 1) c.index-rows-j.result y m)
-          (not_less (key g.T.Canon.kind (g.T.Canon.value t x)) (key g.T.Canon.kind (g.T.Canon.value t y)) c.order.result c.order.ensures c.in-default.not-Less)));
+          (not_less (key g.T.Canon.kind (g.T.Canon.value t x)) (key g.T.Canon.kind (g.T.Canon.value t y)) c.order.result c.order.ensures c.in_default.not-Less)));
     }
 
 pub loop-j-preserved : goal.loop-j-preserved

@@ -7,7 +7,7 @@ returns-in-Some c =
     let s = c.args.self.now in
     let more = c.in-Some.ensures in
     record {
-      writes = record { told = compared_taken s.text.now s.at _ s.same _ s.count c.in-Some.count c.args.bytes.now c.advance-all-at.ensures (omega arith) (omega arith) };
+      writes = record { told = compared_taken s.text.now s.at _ s.same _ s.count c.in-Some.count c.args.bytes.now c.advance_all-at.ensures (omega arith) (omega arith) };
       same = tt;
     }
 

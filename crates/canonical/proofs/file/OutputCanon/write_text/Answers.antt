@@ -5,21 +5,21 @@ use Rattle.canonical.specs.Meanings.{an_output, an_input, a_variable}
 use Rattle.canonical.specs.Files.{output_value}
 use Rattle.canonical.proofs.file.OutputCanon.write_text.Goals as goal
 
-pub returns-in-err-write-after : goal.returns-in-err-write-after
-returns-in-err-write-after g c =
-    stop (44 ∷ canons (also (text) (also (text) (one (text)))) (output_value c.args.text.now c.args.self.now).1) c.in-err-write-after.ensures c.from-residual.ensures.0
+pub returns-in_err-write_after : goal.returns-in_err-write_after
+returns-in_err-write_after g c =
+    stop (44 ∷ canons (also (text) (also (text) (one (text)))) (output_value c.args.text.now c.args.self.now).1) c.in_err-write_after.ensures c.from_residual.ensures.0
 
-pub returns-in-err-write-after-2 : goal.returns-in-err-write-after-2
-returns-in-err-write-after-2 g c =
-    then c.in-ok-write-after.ensures (stop (44 ∷ canons (also (text) (one (text))) (output_value c.args.text.now c.args.self.now).1.1) c.in-err-write-after-2.ensures c.from-residual-in-err-write-after-2.ensures.0)
+pub returns-in_err-write_after-2 : goal.returns-in_err-write_after-2
+returns-in_err-write_after-2 g c =
+    then c.in_ok-write_after.ensures (stop (44 ∷ canons (also (text) (one (text))) (output_value c.args.text.now c.args.self.now).1.1) c.in_err-write_after-2.ensures c.from_residual-in_err-write_after-2.ensures.0)
 
-pub returns-in-err-write-after-3 : goal.returns-in-err-write-after-3
-returns-in-err-write-after-3 g c =
-    then c.in-ok-write-after.ensures (then c.in-ok-write-after-2.ensures (stop (44 ∷ canons (one (text)) (output_value c.args.text.now c.args.self.now).1.1.1) c.in-err-write-after-3.ensures c.from-residual-in-err-write-after-3.ensures.0))
+pub returns-in_err-write_after-3 : goal.returns-in_err-write_after-3
+returns-in_err-write_after-3 g c =
+    then c.in_ok-write_after.ensures (then c.in_ok-write_after-2.ensures (stop (44 ∷ canons (one (text)) (output_value c.args.text.now c.args.self.now).1.1.1) c.in_err-write_after-3.ensures c.from_residual-in_err-write_after-3.ensures.0))
 
-pub returns-in-err-write-after-4 : goal.returns-in-err-write-after-4
-returns-in-err-write-after-4 g c =
-    then c.in-ok-write-after.ensures (then c.in-ok-write-after-2.ensures (then c.in-ok-write-after-3.ensures (stop (41 ∷ []) c.in-err-write-after-4.ensures c.from-residual-in-err-write-after-4.ensures.0)))
+pub returns-in_err-write_after-4 : goal.returns-in_err-write_after-4
+returns-in_err-write_after-4 g c =
+    then c.in_ok-write_after.ensures (then c.in_ok-write_after-2.ensures (then c.in_ok-write_after-3.ensures (stop (41 ∷ []) c.in_err-write_after-4.ensures c.from_residual-in_err-write_after-4.ensures.0)))
 
 pub returns : goal.returns
-returns g c = then c.in-ok-write-after.ensures (then c.in-ok-write-after-2.ensures (then c.in-ok-write-after-3.ensures (then c.in-ok-write-after-4.ensures c.write.ensures.writes)))
+returns g c = then c.in_ok-write_after.ensures (then c.in_ok-write_after-2.ensures (then c.in_ok-write_after-3.ensures (then c.in_ok-write_after-4.ensures c.write.ensures.writes)))

@@ -3,4 +3,4 @@ use Rattle.image.proofs.Opened.{opens_empty}
 use Rattle.image.proofs.image.Image.empty.Goals as goal
 
 pub invariant_of-result : goal.invariant_of-result
-invariant_of-result c = (refl, (λ m h. absurd (omega arith), (∣ opens_empty ∣₁, tt)))
+invariant_of-result c = record { wide = refl; are = λ m h. absurd (omega arith); opens = ∣ opens_empty ∣₁ }
