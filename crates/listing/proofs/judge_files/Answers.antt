@@ -7,8 +7,8 @@ use Rattle.listing.specs.Listing.{Tells, no_fault}
 use Rattle.listing.proofs.Lines.{tells_at}
 use Rattle.listing.proofs.judge_files.Goals as goal
 
-pub offset-bounds-told-k : goal.offset-bounds-told-k
-offset-bounds-told-k c = omega (arith, c.count-k-end.ensures.few)
+pub offset_bounds-told-k : goal.offset_bounds-told-k
+offset_bounds-told-k c = omega (arith, c.count-k-end.ensures.few)
 
 pub bounds-told-k : goal.bounds-told-k
 bounds-told-k c = omega (arith, c.count-k-end.ensures.few)

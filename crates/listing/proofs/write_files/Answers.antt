@@ -11,15 +11,15 @@ loop-k-preserved g c =
     let D = digest g.D.Sink.step g.D.DigestSink.start g.D.DigestSink.answered in
     let f = c.in-Some.ensures in
     let more = lines_more D (bytes_of c.args.image.now) c.args.told.now c.loop-k.k (files_of c.args.image.now) c.in-Some.file.text.now c.in-Some.file.path.now (omega (arith, f.1)) f.2 f.3 in
-    record { on = λ r l p. c.loop-k.invariant.on r l (as_text more (then c.in-ok-write-file.ensures p)) }
+    record { on = λ r l p. c.loop-k.invariant.on r l (as_text more (then c.in_ok-write_file.ensures p)) }
 
-pub returns-in-err-write-file : goal.returns-in-err-write-file
-returns-in-err-write-file g c =
+pub returns-in_err-write_file : goal.returns-in_err-write_file
+returns-in_err-write_file g c =
     let D = digest g.D.Sink.step g.D.DigestSink.start g.D.DigestSink.answered in
     let f = c.in-Some.ensures in
     let more = lines_more D (bytes_of c.args.image.now) c.args.told.now c.loop-k.k (files_of c.args.image.now) c.in-Some.file.text.now c.in-Some.file.path.now (omega (arith, f.1)) f.2 f.3 in
     c.loop-k.invariant.on _ _
-    (as_text more (stop (lines_from D (bytes_of c.args.image.now) c.args.told.now (c.loop-k.k + 1 + 1) (files_of c.args.image.now - (c.loop-k.k + 1))) c.in-err-write-file.ensures c.from-residual.ensures.0))
+    (as_text more (stop (lines_from D (bytes_of c.args.image.now) c.args.told.now (c.loop-k.k + 1 + 1) (files_of c.args.image.now - (c.loop-k.k + 1))) c.in_err-write_file.ensures c.from_residual.ensures.0))
 
 pub returns : goal.returns
 returns g c =
@@ -27,8 +27,8 @@ returns g c =
     let none = lines_all D (bytes_of c.args.image.now) c.args.told.now c.loop-k.k (files_of c.args.image.now) (omega arith) in
     c.loop-k.invariant.on _ _ (as_text none (done _ (g.S.Sink.wraps c.loop-k.out)))
 
-pub offset-bounds-told-k : goal.offset-bounds-told-k
-offset-bounds-told-k g c = omega (arith, c.count-k-end.ensures.few)
+pub offset_bounds-told-k : goal.offset_bounds-told-k
+offset_bounds-told-k g c = omega (arith, c.count-k-end.ensures.few)
 
 pub bounds-told-k : goal.bounds-told-k
 bounds-told-k g c = omega (arith, c.count-k-end.ensures.few)

@@ -2,12 +2,12 @@ use Rattle.std.proofs.Common.{[], ◌∷◌, ◌++◌}
 use Rattle.sink.proofs.Writing.{then, stop}
 use Rattle.listing.proofs.write_last.Goals as goal
 
-pub returns-in-err-write-decimal : goal.returns-in-err-write-decimal
-returns-in-err-write-decimal g c =
-    then c.in-ok-write.ensures.writes
-    (stop (10 ∷ []) c.in-err-write-decimal.ensures.writes c.from-residual-in-err-write-decimal.ensures.0)
+pub returns-in_err-write_decimal : goal.returns-in_err-write_decimal
+returns-in_err-write_decimal g c =
+    then c.in_ok-write.ensures.writes
+    (stop (10 ∷ []) c.in_err-write_decimal.ensures.writes c.from_residual-in_err-write_decimal.ensures.0)
 
 pub returns : goal.returns
 returns g c =
-    then c.in-ok-write.ensures.writes
-    (then c.in-ok-write-decimal.ensures.writes c.write-2.ensures.writes)
+    then c.in_ok-write.ensures.writes
+    (then c.in_ok-write_decimal.ensures.writes c.write-2.ensures.writes)

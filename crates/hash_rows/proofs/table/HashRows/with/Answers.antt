@@ -15,12 +15,12 @@ way c =
           (changed_set t.rows t.len x t.wide t.few t.rising w.in-Ok.at h.0 h.1))
       | in-Err w ↦ (let h = w.in-Err.ensures in
           subst (λ (z : List HashRow × (ℕ × Unit {0})). Changed c.args.self.rows c.args.self.len (row_of c.args.hash c.args.row) z.0 z.1.0) (sym w.result-is)
-          (changed_inserted t.rows t.len x t.wide t.few t.rising w.insert-at.new.rows w.in-Err.at (w.insert-at.auto.rows ∙ t.wide)
-          (room_left t.rows t.len x t.wide t.few t.rising c.requires) h w.insert-at.ensures))
+          (changed_inserted t.rows t.len x t.wide t.few t.rising w.insert_at.new.rows w.in-Err.at (w.insert_at.auto.rows ∙ t.wide)
+          (room_left t.rows t.len x t.wide t.few t.rising c.requires) h w.insert_at.ensures))
     ]
 
-pub invariant-of-result : goal.invariant-of-result
-invariant-of-result c = let w = way c in (w.wide, (w.few, (w.rising, tt)))
+pub invariant_of-result : goal.invariant_of-result
+invariant_of-result c = let w = way c in record { wide = w.wide; few = w.few; rising = w.rising }
 
 pub returns : goal.returns
 returns c = let w = way (goal.at.returns c).Joined-place in record { placed = w.placed; few = w.more }
