@@ -6,8 +6,8 @@ use Rattle.listing.specs.Listing.{last_line, lines_from, AllTold}
 use Rattle.listing.proofs.Lines.{answered}
 use Rattle.listing.proofs.list.Goals as goal
 
-pub returns-in_err-write_files : goal.returns-in_err-write_files
-returns-in_err-write_files g c =
+pub returns-in_err-write_files-in-Ok : goal.returns-in_err-write_files-in-Ok
+returns-in_err-write_files-in-Ok g c =
     let D = digest g.D.Sink.step g.D.DigestSink.start g.D.DigestSink.answered in
     let n = files_of c.open_input.new.image in
     let o = c.in-Ok.ensures in
@@ -17,11 +17,11 @@ returns-in_err-write_files g c =
       answered = answered c.args.bytes.now n o.1 o.2;
       told = ts;
       judged = subst (λ (b : List ℕ). AllTold b ts n) o.0 c.judge_files-told.ensures;
-      writes = as_text (ap (λ (b : List ℕ). lines_from D b ts 1 n ++ last_line n) o.0) (stop (last_line n) c.in_err-write_files.ensures c.from_residual.ensures.0);
+      writes = as_text (ap (λ (b : List ℕ). lines_from D b ts 1 n ++ last_line n) o.0) (stop (last_line n) c.in_err-write_files-in-Ok.ensures c.from_residual.ensures.0);
     }
 
-pub returns-in_ok-write_files : goal.returns-in_ok-write_files
-returns-in_ok-write_files g c =
+pub returns-in_ok-write_files-in-Ok : goal.returns-in_ok-write_files-in-Ok
+returns-in_ok-write_files-in-Ok g c =
     let D = digest g.D.Sink.step g.D.DigestSink.start g.D.DigestSink.answered in
     let n = files_of c.open_input.new.image in
     let o = c.in-Ok.ensures in
@@ -33,7 +33,7 @@ returns-in_ok-write_files g c =
       judged = subst (λ (b : List ℕ). AllTold b ts n) o.0 c.judge_files-told.ensures;
       writes =
           as_text (ap (λ (b : List ℕ). lines_from D b ts 1 n ++ last_line n) o.0)
-          (then c.in_ok-write_files.ensures (as_text (ap last_line c.count.ensures.value) c.write_last.ensures));
+          (then c.in_ok-write_files-in-Ok.ensures (as_text (ap last_line c.count.ensures.value) c.write_last.ensures));
     }
 
 pub returns-in-Err : goal.returns-in-Err

@@ -11,15 +11,15 @@ loop-k-preserved g c =
     let D = digest g.D.Sink.step g.D.DigestSink.start g.D.DigestSink.answered in
     let f = c.in-Some.ensures in
     let more = lines_more D (bytes_of c.args.image.now) c.args.told.now c.loop-k.k (files_of c.args.image.now) c.in-Some.file.text.now c.in-Some.file.path.now (omega (arith, f.1)) f.2 f.3 in
-    record { on = λ r l p. c.loop-k.invariant.on r l (as_text more (then c.in_ok-write_file.ensures p)) }
+    record { on = λ r l p. c.loop-k.invariant.on r l (as_text more (then c.in_ok-write_file-in-Some.ensures p)) }
 
-pub returns-in_err-write_file : goal.returns-in_err-write_file
-returns-in_err-write_file g c =
+pub returns-in_err-write_file-in-Some : goal.returns-in_err-write_file-in-Some
+returns-in_err-write_file-in-Some g c =
     let D = digest g.D.Sink.step g.D.DigestSink.start g.D.DigestSink.answered in
     let f = c.in-Some.ensures in
     let more = lines_more D (bytes_of c.args.image.now) c.args.told.now c.loop-k.k (files_of c.args.image.now) c.in-Some.file.text.now c.in-Some.file.path.now (omega (arith, f.1)) f.2 f.3 in
     c.loop-k.invariant.on _ _
-    (as_text more (stop (lines_from D (bytes_of c.args.image.now) c.args.told.now (c.loop-k.k + 1 + 1) (files_of c.args.image.now - (c.loop-k.k + 1))) c.in_err-write_file.ensures c.from_residual.ensures.0))
+    (as_text more (stop (lines_from D (bytes_of c.args.image.now) c.args.told.now (c.loop-k.k + 1 + 1) (files_of c.args.image.now - (c.loop-k.k + 1))) c.in_err-write_file-in-Some.ensures c.from_residual.ensures.0))
 
 pub returns : goal.returns
 returns g c =
