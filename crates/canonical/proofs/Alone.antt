@@ -1,10 +1,10 @@
 -- No two values have one canonical text.
-use Rattle.std.proofs.Common.{◌≡◌, ℕ, List, [], ◌∷◌, ◌++◌, sym, refl, ap, ◌∙◌, subst, append_assoc, arith}
+use Rattle.std.proofs.Common.{◌≡◌, ℕ, List, [], ◌∷◌, ◌++◌, sym, refl, ap, ◌∙◌, append_assoc, arith}
 use Rattle.std.specs.List.{flat_map}
 use Rattle.canonical.specs.Strings.{escaped as spells, quoted}
 use Rattle.aterm.specs.Grammar.{Char, plain, escaped, escape, raw, meaning, opener}
 use Rattle.aterm.proofs.Free.{not_quote, not_slash, opener_close}
-use Rattle.canonical.specs.Kinds.{Kind, text, entry, ordered, rising, Kinds, one, also, shape, Value, Values, comma, listing, canon, canons}
+use Rattle.canonical.specs.Kinds.{Kind, text, entry, ordered, rising, Kinds, one, also, shape, Value, comma, listing, canon, canons}
 use Rattle.canonical.specs.Meanings.{a_derivation, Meaning, canonical}
 use Rattle.canonical.proofs.Home.{spell}
 

@@ -1,5 +1,5 @@
 -- Rows that are arranged and then sorted mean what the tree means.
-use Rattle.std.proofs.Common.{◌≡◌, ℕ, zero, suc, ◌+◌, ◌<◌, ◌≤◌, Bool, true, false, cond, eqb, ◌⊎◌, List, [], ◌∷◌, map, length, get_or, take, set, sum_by, sym, refl, ap, ◌∙◌, subst, inl, inr, ⊎_elim, arith, length-set, get_or-set_other, get_or-set_same, eq-eqb, ne_eqb}
+use Rattle.std.proofs.Common.{◌≡◌, ℕ, zero, suc, ◌+◌, ◌<◌, ◌≤◌, cond, eqb, ◌⊎◌, List, [], ◌∷◌, map, length, get_or, take, set, sum_by, sym, refl, ap, ◌∙◌, subst, inl, inr, ⊎_elim, arith, length-set, get_or-set_other, get_or-set_same, eq-eqb, ne_eqb}
 use Rattle.std.proofs.lemmas.List.{get_or_read, get_or-map, map-set, length-map}
 use Rattle.std.specs.List.{swap, AllByRecursion as All}
 use Rattle.std.specs.List.Sorted.{IsPermutation}
@@ -10,7 +10,7 @@ use Rattle.std.proofs.lemmas.List.Edits.{swap_is}
 use Rattle.std.proofs.lemmas.Bool.{cond-true, cond-false, cases_eq}
 use Rattle.aterm.specs.Grammar.{Tree, Trees}
 use Rattle.canonical.specs.Order.{Along, Under, Member, Same, Rising, Level, Different}
-use Rattle.canonical.specs.Kinds.{Kind, text, entry, ordered, rising, Kinds, one, also, shape, shapes, Value, Values, key, tree_key, Means, MeansAll, Apart, AllApart, Sorts, Tells, TellsAll, Arranges, ArrangesAll}
+use Rattle.canonical.specs.Kinds.{Kind, text, entry, ordered, rising, Kinds, one, also, shape, shapes, Value, Values, key, tree_key, Means, MeansAll, Apart, AllApart, Tells, TellsAll, Arranges, ArrangesAll}
 use Rattle.canonical.proofs.Orders.{trichotomy}
 use Rattle.canonical.proofs.Members.{member_all, all_from_member}
 use Rattle.canonical.proofs.Exist.{means_key, apart_each}

@@ -1,16 +1,16 @@
 -- A text that is canonical is written back byte for byte.
-use Rattle.std.proofs.Common.{◌≡◌, ℕ, zero, suc, pred, ◌≤◌, ◌⊎◌, List, [], ◌∷◌, ◌++◌, map, length, sym, refl, ap, ◌∙◌, subst, inl, inr, append_assoc, arith}
+use Rattle.std.proofs.Common.{◌≡◌, ℕ, zero, suc, ◌≤◌, ◌⊎◌, List, [], ◌∷◌, ◌++◌, map, length, sym, refl, ap, ◌∙◌, subst, inl, inr, append_assoc, arith}
 use Rattle.std.specs.List.{AllByRecursion as All, flat_map}
 use Rattle.std.proofs.lemmas.List.{map-append}
-use Rattle.aterm.specs.Grammar.{Sign, byte, over, end, signs, Char, plain, escaped, escape, Tree, Trees, Within, WithinAll, Every, raw, meaning, opener, begin, more, rows, write, writes}
+use Rattle.aterm.specs.Grammar.{Sign, byte, end, signs, Char, plain, escaped, escape, Tree, Trees, Within, WithinAll, Every, raw, meaning, opener, more, rows, write, writes}
 use Rattle.aterm.specs.Files.{derivation, word, whole}
 use Rattle.aterm.proofs.Free.{not_quote, not_slash, head_byte}
 use Rattle.aterm.proofs.Limits.{Clear, clear_signs, clear_left, clear_right, within}
 use Rattle.canonical.specs.Strings.{escaped as spells, quoted}
-use Rattle.canonical.specs.Order.{Along, Rising}
+use Rattle.canonical.specs.Order.{Along}
 use Rattle.canonical.specs.Kinds.{Kind, text, entry, ordered, rising, Kinds, one, also, shape, shapes, Value, Values, key, tree_key, Means, MeansAll, comma, listing, canon, canons}
 use Rattle.canonical.specs.Meanings.{a_derivation, Meaning, canonical}
-use Rattle.canonical.specs.Canonical.{Proper, Canonical, AllCanonical, CanonicalText}
+use Rattle.canonical.specs.Canonical.{Proper, Canonical, AllCanonical}
 use Rattle.canonical.proofs.Exist.{means_key, along_rises}
 use Rattle.canonical.proofs.Members.{one_rising}
 use Rattle.canonical.proofs.Home.{spell_plain, signs_map}

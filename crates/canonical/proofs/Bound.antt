@@ -1,14 +1,14 @@
 -- The canonical text is at most twice as long as any text of the same meaning.
-use Rattle.std.proofs.Common.{◌≡◌, ℕ, suc, pred, ◌+◌, ◌*◌, ◌≤◌, Bool, true, false, cond, eqb, List, [], ◌∷◌, ◌++◌, map, length, sym, refl, ap, ◌∙◌, subst, arith, length-append}
+use Rattle.std.proofs.Common.{◌≡◌, ℕ, pred, ◌+◌, ◌*◌, ◌≤◌, eqb, List, [], ◌∷◌, ◌++◌, map, length, refl, ap, arith, length-append}
 use Rattle.std.specs.List.{flat_map}
 use Rattle.std.proofs.lemmas.List.{length-map}
 use Rattle.std.proofs.lemmas.Bool.{cond_both}
 use Rattle.canonical.specs.Strings.{escaped as spells, quoted}
-use Rattle.aterm.specs.Grammar.{Sign, byte, over, end, signs, Char, plain, escaped, escape, Shape, Tree, Trees, raw, meaning, opener, begin, more, rows, write, writes}
-use Rattle.aterm.specs.Files.{derivation, word, whole}
+use Rattle.aterm.specs.Grammar.{Sign, byte, end, signs, Char, plain, escaped, escape, Tree, Trees, raw, meaning, opener, more, rows, write, writes}
+use Rattle.aterm.specs.Files.{derivation, whole}
 use Rattle.aterm.proofs.Laws.{length_signs}
 use Rattle.canonical.specs.Order.{Along}
-use Rattle.canonical.specs.Kinds.{Kind, text, entry, ordered, rising, Kinds, one, also, shape, shapes, Value, Values, key, Means, MeansAll, Sorts, comma, listing, canon, canons}
+use Rattle.canonical.specs.Kinds.{Kind, text, entry, ordered, rising, Kinds, one, also, shape, shapes, Value, Values, key, Means, MeansAll, comma, listing, canon, canons}
 use Rattle.canonical.specs.Meanings.{a_derivation, Meaning, canonical}
 use Rattle.canonical.proofs.Members.{total, total_rising}
 

@@ -1,10 +1,10 @@
 -- What a comparing sink knows after a text was written to it.
-use Rattle.std.proofs.Common.{◌≡◌, ℕ, zero, suc, ◌+◌, ◌-◌, ◌*◌, ◌%◌, ◌^◌, ◌<◌, ◌≤◌, Bool, true, false, cond, eqb, ◌⊎◌, List, [], ◌∷◌, ◌++◌, length, get_or, take, drop, sym, refl, ap, ◌∙◌, subst, inl, inr, ⊎_elim, true≢false, arith, length-append, eq-eqb, ne_eqb}
+use Rattle.std.proofs.Common.{◌≡◌, ℕ, suc, ◌+◌, ◌-◌, ◌^◌, ◌<◌, ◌≤◌, Bool, true, false, eqb, ◌⊎◌, List, [], ◌∷◌, ◌++◌, length, get_or, drop, sym, refl, ap, ◌∙◌, subst, inl, inr, ⊎_elim, true≢false, arith, length-append, eq-eqb, ne_eqb}
 use Rattle.std.proofs.lemmas.List.{drop_more, drop_all, append-nil}
 use Rattle.std.proofs.lemmas.Bool.{cond-true, cond-false, cases_eq}
-use Rattle.sink.specs.Write.{Held, steps, filled, Taken, Stopped, Writes}
-use Rattle.sink.proofs.Writing.{parts, kept, steps_append}
-use Rattle.canonical.specs.Differences.{Parted, DifferAt, FirstDifference, comparing, flag, progress, compared}
+use Rattle.sink.specs.Write.{Held, steps, filled, Taken, Stopped}
+use Rattle.sink.proofs.Writing.{parts, kept}
+use Rattle.canonical.specs.Differences.{DifferAt, comparing, flag, progress, compared}
 
 as_true : (t : List ℕ) (at b : ℕ) (s : Bool) (l : List ℕ) → s ≡ true → l ≡ comparing (progress t at true) b → l ≡ comparing (progress t at s) b
 as_true t at b s l e h = subst (λ (x : Bool). l ≡ comparing (progress t at x) b) (sym e) h

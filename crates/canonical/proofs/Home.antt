@@ -1,21 +1,21 @@
 -- The canonical text of a lawful meaning is written by a tree that means it.
-use Rattle.std.proofs.Common.{◌≡◌, ℕ, zero, suc, pred, ◌≤◌, Bool, true, false, cond, T, eqb, ◌⊎◌, List, [], ◌∷◌, ◌++◌, map, length, sym, refl, ap, ◌∙◌, subst, inl, inr, ⊎_elim, append_assoc, arith, ne_eqb}
+use Rattle.std.proofs.Common.{◌≡◌, ℕ, zero, suc, ◌≤◌, eqb, List, [], ◌∷◌, ◌++◌, map, length, sym, refl, ap, ◌∙◌, subst, inl, inr, ⊎_elim, append_assoc, arith, ne_eqb}
 use Rattle.std.specs.List.{AllByRecursion as All, flat_map}
 use Rattle.std.proofs.lemmas.List.{map-append}
 use Rattle.std.proofs.lemmas.Bool.{cases_eq, cond-false}
 use Rattle.canonical.specs.Strings.{escaped as spells}
-use Rattle.aterm.specs.Grammar.{Sign, byte, over, end, signs, Char, plain, escaped, Shape, Tree, Trees, Within, WithinAll, Every, raw, meaning, opener, begin, more, rows, write, writes}
+use Rattle.aterm.specs.Grammar.{Sign, byte, end, signs, Char, plain, escaped, Tree, Trees, Within, WithinAll, Every, raw, meaning, opener, more, rows, write, writes}
 use Rattle.aterm.specs.Files.{derivation, word, whole}
 use Rattle.aterm.proofs.Once.{once_write}
 use Rattle.aterm.proofs.Strings.{ordinary_from}
 use Rattle.canonical.specs.Order.{Along}
-use Rattle.canonical.specs.Kinds.{Kind, text, entry, ordered, rising, Kinds, one, also, shape, shapes, Value, Values, key, tree_key, Means, MeansAll, Lawful, AllLawful, Sorts, comma, listing, canon, canons}
+use Rattle.canonical.specs.Kinds.{Kind, text, entry, ordered, rising, Kinds, one, also, shape, shapes, Value, Values, key, tree_key, Means, MeansAll, Lawful, AllLawful, comma, listing, canon, canons}
 use Rattle.canonical.specs.Meanings.{a_derivation, Meaning, canonical}
 use Rattle.canonical.specs.Laws.{Home}
 use Rattle.canonical.specs.Canonical.{Proper, Canonical, AllCanonical, CanonicalText}
 use Rattle.canonical.proofs.Exist.{means_key, rises_along}
 use Rattle.canonical.proofs.Members.{same_refl}
-use Rattle.canonical.proofs.Unique.{means_once, keeps, each_length}
+use Rattle.canonical.proofs.Unique.{each_length}
 
 abbrev Spelt : ℕ → Type 0
 Spelt b = (c : Char) × ((raw (c ∷ []) ≡ spells b) × ((meaning (c ∷ []) ≡ b ∷ []) × Proper c))

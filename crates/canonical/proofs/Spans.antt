@@ -1,5 +1,5 @@
 -- What a derivation holds of a text says what the tree says.
-use Rattle.std.proofs.Common.{◌≡◌, ℕ, ◌+◌, true, false, eqb, List, [], ◌∷◌, map, take, sym, refl, ap, ◌∙◌, ne_eqb}
+use Rattle.std.proofs.Common.{◌≡◌, ℕ, ◌+◌, true, false, eqb, List, [], ◌∷◌, take, refl, ap, ◌∙◌, ne_eqb}
 use Rattle.std.proofs.lemmas.Bool.{cond-false}
 use Rattle.aterm.specs.declared.part.Span.{Span}
 use Rattle.aterm.specs.declared.rows.Placed.{Placed}
@@ -8,10 +8,10 @@ use Rattle.aterm.specs.declared.file.Input.{Input}
 use Rattle.aterm.specs.declared.file.Variable.{Variable}
 use Rattle.aterm.specs.declared.file.Derivation.{Derivation}
 use Rattle.aterm.specs.Grammar.{Char, plain, escaped, escape, raw, meaning, Tree}
-use Rattle.aterm.specs.Reads.{Spans, Each, past}
+use Rattle.aterm.specs.Reads.{Each, past}
 use Rattle.aterm.specs.Files.{output, input, variable, derivation, span, in_output, in_input, in_variable, in_derivation}
 use Rattle.aterm.proofs.Free.{not_slash}
-use Rattle.canonical.specs.Decode.{decodes, said}
+use Rattle.canonical.specs.Decode.{decodes}
 use Rattle.canonical.specs.Order.{Along}
 use Rattle.canonical.specs.Kinds.{Kind, text, shape, Value, Tells}
 use Rattle.canonical.specs.Meanings.{an_output, an_input, a_variable, a_derivation}

@@ -1,10 +1,10 @@
 -- A tree has one meaning at most, and it is lawful.
-use Rattle.std.proofs.Common.{◌≡◌, ℕ, suc, ◌≤◌, ◌⊎◌, List, [], ◌∷◌, length, sym, refl, ap, ◌∙◌, subst, inl, inr, arith}
+use Rattle.std.proofs.Common.{◌≡◌, suc, List, [], ◌∷◌, length, sym, refl, ap, ◌∙◌, subst, arith}
 use Rattle.std.specs.List.{AllByRecursion as All}
 use Rattle.aterm.specs.Grammar.{Tree, Trees, Within, WithinAll, Every}
-use Rattle.canonical.specs.Order.{Along, Member, Same, Rising}
-use Rattle.canonical.specs.Kinds.{Kind, text, entry, ordered, rising, Kinds, one, also, shape, shapes, Value, Values, key, Means, MeansAll, Lawful, AllLawful, Sorts}
-use Rattle.canonical.proofs.Members.{member_all, all_from_member, same_sym, same_trans, same_refl, one_rising, total_rising, total_ones}
+use Rattle.canonical.specs.Order.{Along, Same}
+use Rattle.canonical.specs.Kinds.{Kind, text, entry, ordered, rising, Kinds, one, also, shape, shapes, Value, Values, key, Means, MeansAll, Lawful, AllLawful}
+use Rattle.canonical.proofs.Members.{member_all, all_from_member, same_sym, same_trans, one_rising, total_rising, total_ones}
 
 each_once : {T V : Type 0} (M : T → V → Type 0) → ((t : T) (v w : V) → M t v → M t w → v ≡ w) → (ts : List T) (vs ws : List V) → Along M ts vs → Along M ts ws → vs ≡ ws
 each_once M h [] [] [] p q = refl

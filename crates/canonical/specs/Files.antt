@@ -8,7 +8,7 @@ use Rattle.aterm.specs.declared.file.Input.{Input}
 use Rattle.aterm.specs.declared.file.Variable.{Variable}
 use Rattle.aterm.specs.declared.file.Derivation.{Derivation}
 use Rattle.canonical.specs.Decode.{said}
-use Rattle.canonical.specs.Kinds.{Kind, text, rising, ordered, Value}
+use Rattle.canonical.specs.Kinds.{Kind, rising, Value}
 use Rattle.canonical.specs.Meanings.{an_output, an_input, a_variable, a_file, a_derivation}
 
 abbrev pub said_in : List ℕ → Span → List ℕ

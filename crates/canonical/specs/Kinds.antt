@@ -4,7 +4,7 @@ use Rattle.std.specs.Prelude.{◌≡◌, ℕ, ◌≤◌, List, [], ◌∷◌, �
 use Rattle.std.specs.List.{AllByRecursion as All, flat_map}
 use Rattle.std.specs.List.Sorted.{IsPermutation}
 use Rattle.canonical.specs.Strings.{quoted}
-use Rattle.aterm.specs.Grammar.{Shape, string, row, list, Fields, last, field, Tree, Trees, Char, meaning}
+use Rattle.aterm.specs.Grammar.{Shape, string, row, list, Fields, last, field, Tree, Trees, meaning}
 use Rattle.canonical.specs.Order.{Along, Rising, Same, Level, Different}
 
 -- A string; a row; a list whose order counts; a map or set, which a list gives in any order.

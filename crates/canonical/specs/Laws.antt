@@ -1,6 +1,6 @@
 -- The laws of meanings and canonical texts.
 -- Source: this project's own rule (docs/FORMATS.md): a text has one meaning, and a meaning one canonical text, which reads back as it.
-use Rattle.std.specs.Prelude.{◌≡◌, ℕ, ◌*◌, ◌≤◌, ◌↔◌, List, [], ◌∷◌, length}
+use Rattle.std.specs.Prelude.{◌≡◌, ℕ, ◌*◌, ◌≤◌, List, length}
 use Rattle.aterm.specs.Grammar.{Tree, signs, Within}
 use Rattle.aterm.specs.Files.{derivation, whole}
 use Rattle.canonical.specs.Kinds.{Lawful, Means, Apart}

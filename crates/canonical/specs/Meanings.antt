@@ -1,7 +1,7 @@
 -- The meaning of a derivation, and its canonical text.
 -- Source: E. Dolstra, The Purely Functional Software Deployment Model (2006), section 5.4; the Nix manual, "Derivations".
-use Rattle.std.specs.Prelude.{ℕ, List, [], ◌∷◌}
-use Rattle.canonical.specs.Kinds.{Kind, text, entry, ordered, rising, Kinds, one, also, Value, canon}
+use Rattle.std.specs.Prelude.{ℕ, List, ◌∷◌}
+use Rattle.canonical.specs.Kinds.{Kind, text, entry, ordered, rising, one, also, Value, canon}
 
 -- name; path, algorithm, hash
 abbrev pub an_output : Kind

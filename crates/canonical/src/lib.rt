@@ -1,4 +1,6 @@
 // What a derivation's text means, and the one canonical text of that meaning.
+#![tactic(auto)]
+
 mod comparer;
 mod file;
 mod laws;

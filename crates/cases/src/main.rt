@@ -1,4 +1,6 @@
 // Images in base 16, one a line after a name, and what is listed of each: the cases stand in stdin, what is expected in stdout.
+#![tactic(auto)]
+
 use anyhow::anyhow;
 use listing::list_into;
 use recorder::Recorder;

@@ -1,4 +1,6 @@
 // One derivation file: its text is read, and the questions 13 to 17 are put to it.
+#![tactic(auto)]
+
 mod ask;
 mod digits;
 mod fault;

@@ -1,4 +1,6 @@
 // drvcheck < IMAGE: what an image of derivation files holds.
+#![tactic(auto)]
+
 use anyhow::anyhow;
 use listing::list_into;
 use recorder::Recorder;

@@ -1,6 +1,6 @@
 -- The laws of files that read, from those of trees.
-use Rattle.std.proofs.Common.{◌≡◌, ℕ, List, ap}
-use Rattle.aterm.specs.Files.{derivation, whole, Reading, in_derivation}
+use Rattle.std.proofs.Common.{ℕ, List, ap}
+use Rattle.aterm.specs.Files.{derivation, in_derivation}
 use Rattle.aterm.specs.Grammar.{Tree}
 use Rattle.aterm.specs.declared.file.Derivation.{Derivation}
 use Rattle.derivation.specs.Judgement.{Accepted}
@@ -12,7 +12,7 @@ use Rattle.canonical.proofs.Bound.{bounded}
 use Rattle.canonical.proofs.Exist.{exists}
 use Rattle.canonical.proofs.Home.{has_one}
 use Rattle.canonical.proofs.Unique.{keeps}
-use Rattle.file_meaning.specs.Laws.{OneText, EachHasOneText, WrittenBack, ReadsAgain, Alike, Short}
+use Rattle.file_meaning.specs.Laws.{EachHasOneText, WrittenBack, ReadsAgain, Alike, Short}
 use Rattle.file_meaning.specs.Reads.{Reads}
 use Rattle.file_meaning.proofs.Trees.{passes, answers}
 use Rattle.file_meaning.proofs.Values.{proper, again, keys_apart}

@@ -1,23 +1,20 @@
 -- Every file reads or has a fault, one only, and not both.
-use Rattle.std.proofs.Common.{◌≡◌, ℕ, ◌⊎◌, List, [], ◌∷◌, ◌++◌, map, Some, None, sym, refl, ◌∙◌, subst, inl, inr}
-use Rattle.aterm.specs.Files.{derivation, whole, word, IsFault}
-use Rattle.aterm.specs.Grammar.{Sign, byte, end, Tree, Within, signs, write}
+use Rattle.std.proofs.Common.{◌≡◌, ℕ, List, [], ◌∷◌, ◌++◌, map, Some, sym, ◌∙◌, subst, inl, inr}
+use Rattle.aterm.specs.Files.{derivation, whole, word}
+use Rattle.aterm.specs.Grammar.{byte, end, Tree, Within, signs, write}
 use Rattle.aterm.proofs.Limits.{Clear, clear_signs, clear_left, clear_right, within}
 use Rattle.aterm.proofs.Total.{every_text}
 use Rattle.aterm.proofs.Whole as texts
-use Rattle.derivation.specs.Judgement.{Answer, Refused, IsFileFault}
+use Rattle.derivation.specs.Judgement.{Answer}
 use Rattle.derivation.specs.Questions.{Yes, entries}
-use Rattle.derivation.specs.declared.fault.FileFault.{FileFault}
 use Rattle.derivation.specs.declared.fault.FileFault.TheVariants.{Text, Row}
 use Rattle.derivation.proofs.Judging.{one_refusal}
 use Rattle.derivation.proofs.Judging as judging
 use Rattle.derivation.proofs.Total.{every_tree}
-use Rattle.canonical.specs.Kinds.{Means}
-use Rattle.canonical.specs.Meanings.{a_derivation, Meaning}
+use Rattle.canonical.specs.Meanings.{a_derivation}
 use Rattle.canonical.proofs.Exist.{exists}
 use Rattle.canonical.proofs.Home.{whole_once}
 use Rattle.file_meaning.specs.Laws.{EveryFile, NotBoth, OneFault}
-use Rattle.file_meaning.specs.Reads.{Reads}
 use Rattle.file_meaning.proofs.Trees.{passes}
 use Rattle.file_meaning.proofs.Values.{keys_apart}
 

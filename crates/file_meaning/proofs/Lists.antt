@@ -1,6 +1,6 @@
 -- What is asked of each row of a list, and of its rows together.
-use Rattle.std.proofs.Common.{◌≡◌, ℕ, ◌⊎◌, List, [], ◌∷◌, ◌++◌, sym, refl, ap, ◌∙◌, subst, inl, inr}
-use Rattle.std.proofs.ByRecursion.{All-append, All-push}
+use Rattle.std.proofs.Common.{◌≡◌, ℕ, List, [], ◌∷◌, ◌++◌, sym, subst}
+use Rattle.std.proofs.ByRecursion.{All-append}
 use Rattle.std.specs.List.{AllByRecursion as All}
 use Rattle.aterm.specs.Grammar.{Shape, Tree, string, meaning}
 use Rattle.aterm.specs.Reads.{past}

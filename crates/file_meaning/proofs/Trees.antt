@@ -1,5 +1,5 @@
 -- The questions on one file, list by list: what it is for a tree to pass them all.
-use Rattle.std.proofs.Common.{◌≡◌, ℕ, ◌≤◌, ◌⊎◌, List, [], ◌∷◌, ◌++◌, length, None, refl, inl, inr}
+use Rattle.std.proofs.Common.{◌≡◌, ℕ, ◌≤◌, ◌⊎◌, List, [], ◌∷◌, ◌++◌, length, None, inl, inr}
 use Rattle.std.proofs.ByRecursion.{All-append}
 use Rattle.std.specs.List.{AllByRecursion as All}
 use Rattle.aterm.specs.Files.{output, input, variable, derivation}
@@ -7,7 +7,7 @@ use Rattle.aterm.specs.Grammar.{Tree, string, raw}
 use Rattle.derivation.proofs.Plain.{all_first, all_second}
 use Rattle.derivation.specs.Asked.{Throughout}
 use Rattle.derivation.specs.Judgement.{Answer}
-use Rattle.derivation.specs.Questions.{Entry, all_outputs, output_row, input_row, source_row, variable_row, tagged, output_rows, input_rows, source_rows, variable_rows, entries, place_2, place_3, place_7, named, present, formed_output, formed_input, formed_source, formed, different_output, different_input, different_source, different_variable, different, FixedFile, blank, settled, output_name, short, Yes}
+use Rattle.derivation.specs.Questions.{Entry, all_outputs, output_row, input_row, source_row, variable_row, tagged, output_rows, input_rows, source_rows, variable_rows, entries, named, present, formed_output, formed_input, formed_source, formed, different_output, different_input, different_source, different_variable, different, FixedFile, blank, settled, output_name, short}
 use Rattle.derivation.specs.declared.question.Question.{Question}
 use Rattle.derivation.specs.declared.question.Question.TheVariants.{Present, Formed, Different, Fixed, Short}
 use Rattle.derivation.specs.declared.spot.Spot.{Spot}

@@ -1,11 +1,11 @@
 -- To pass the questions is a property of the meaning: a canonical tree of the same meaning passes them too.
-use Rattle.std.proofs.Common.{◌≡◌, ℕ, ◌≤◌, ◌⊎◌, List, [], ◌∷◌, ◌++◌, length, codes, sym, refl, ap, ◌∙◌, subst, inl, inr, arith}
+use Rattle.std.proofs.Common.{◌≡◌, ℕ, ◌≤◌, ◌⊎◌, List, [], ◌∷◌, length, codes, sym, refl, ap, ◌∙◌, subst, inl, inr, arith}
 use Rattle.std.specs.List.{AllByRecursion as All}
 use Rattle.aterm.specs.Files.{output, input, variable, derivation}
 use Rattle.aterm.specs.Grammar.{Tree, string, raw, meaning}
 use Rattle.store_path.specs.Names.{Name, StorePath, Drv}
 use Rattle.derivation.specs.Asked.{Throughout}
-use Rattle.derivation.specs.Questions.{named, Plain, formed_output, formed_name, formed_input, formed_source, fresh, different_output, different_input, different_source, different_variable, Given, hashed, FixedFile, blank, output_name}
+use Rattle.derivation.specs.Questions.{named, Plain, formed_output, formed_name, formed_input, formed_source, fresh, different_input, Given, hashed, FixedFile, blank, output_name}
 use Rattle.derivation.proofs.Meant.{plain_means}
 use Rattle.canonical.specs.Canonical.{Proper, Canonical}
 use Rattle.canonical.specs.Kinds.{Kind, text, rising, shape, Value, key, tree_key, Sorts, Means, Apart}

@@ -1,8 +1,6 @@
 -- The laws of files that read and their canonical texts.
 -- Source: this project's own rule (docs/FORMATS.md, "Meaning and canonical text").
 use Rattle.std.specs.Prelude.{◌≡◌, ℕ, ◌*◌, ◌≤◌, ◌⊎◌, List, length}
-use Rattle.aterm.specs.Files.{derivation, whole}
-use Rattle.aterm.specs.Grammar.{Tree, signs}
 use Rattle.derivation.specs.Judgement.{IsFileFault}
 use Rattle.derivation.specs.declared.fault.FileFault.{FileFault}
 use Rattle.canonical.specs.Canonical.{Canonical, CanonicalText}

@@ -1,4 +1,6 @@
 // What a file at a store path means, and its canonical text.
+#![tactic(auto)]
+
 mod laws;
 mod rewritten;
 

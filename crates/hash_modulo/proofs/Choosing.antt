@@ -1,14 +1,14 @@
 -- In a finite set it is decided which files have a hash; and a hash depends on nothing that the file does not rest on.
-use Rattle.std.proofs.Common.{◌≡◌, ℕ, zero, suc, ◌≤◌, ◌⊎◌, List, [], ◌∷◌, length, Some, None, Option, sym, refl, ap, ◌∙◌, subst, inl, inr, arith}
+use Rattle.std.proofs.Common.{◌≡◌, ℕ, zero, suc, ◌⊎◌, List, [], ◌∷◌, length, Some, None, Option, sym, refl, ap, ◌∙◌, subst, inl, inr, arith}
 use Rattle.canonical.specs.Kinds.{Value}
 use Rattle.canonical.specs.Meanings.{an_output, Meaning}
 use Rattle.canonical.specs.Order.{Member}
 use Rattle.file_meaning.specs.Reads.{Reads}
 use Rattle.file_meaning.proofs.Judged.{every_file, not_both}
 use Rattle.store_path.proofs.Deciding.{Known, same_text}
-use Rattle.hash_modulo.specs.Hashes.{Digest, Hashed, hashed}
+use Rattle.hash_modulo.specs.Hashes.{hashed}
 use Rattle.hash_modulo.specs.Laws.{Decided, SomeInputWithout, Local}
-use Rattle.hash_modulo.specs.Sets.{Bytes, Files, Present, Finite, Means, Readable, Row, Names, Owns, Owned, Ready, Rests, near, far, Hashable, hashable}
+use Rattle.hash_modulo.specs.Sets.{Bytes, Files, Present, Means, Readable, Row, Names, Owns, Owned, Ready, Rests, near, far, Hashable, hashable}
 use Rattle.hash_modulo.proofs.Founding.{reads_present, hashable_reads, hashable_ready, Place, onward, less_length}
 use Rattle.hash_modulo.proofs.Hashes.{one_text, no_cycle, inputs_hashable, one_meaning}
 

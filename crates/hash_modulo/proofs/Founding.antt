@@ -3,7 +3,7 @@ use Rattle.std.proofs.Common.{◌≡◌, ℕ, zero, suc, ◌≤◌, ◌⊎◌, L
 use Rattle.canonical.specs.Meanings.{Meaning}
 use Rattle.canonical.specs.Order.{Member}
 use Rattle.hash_modulo.specs.Laws.{Good, RowsGood, Founded, InOwnTerms}
-use Rattle.hash_modulo.specs.Sets.{Bytes, Files, Present, Finite, Means, Readable, Row, Names, Owned, Ready, Rests, near, far, Hashable, hashable}
+use Rattle.hash_modulo.specs.Sets.{Bytes, Files, Present, Means, Readable, Row, Names, Ready, Rests, near, far, Hashable, hashable}
 use Rattle.hash_modulo.proofs.Hashes.{rests_on, inputs_hashable, carried, no_cycle, one_meaning}
 
 pub reads_present : (set : Files) (p : Bytes) → Readable set p → Present set p

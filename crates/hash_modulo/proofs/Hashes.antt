@@ -1,5 +1,5 @@
 -- One hash each, and none on a cycle.
-use Rattle.std.proofs.Common.{◌≡◌, ℕ, ◌⊎◌, List, [], ◌∷◌, map, Some, Option, sym, refl, ap, ◌∙◌, subst, inl, inr}
+use Rattle.std.proofs.Common.{◌≡◌, ◌⊎◌, List, [], ◌∷◌, map, Some, Option, sym, refl, ap, ◌∙◌, subst, inl, inr}
 use Rattle.canonical.specs.Kinds.{Value}
 use Rattle.canonical.specs.Meanings.{an_output, Meaning, canonical}
 use Rattle.canonical.specs.Order.{Member}
@@ -9,9 +9,9 @@ use Rattle.hash_rows.specs.Keyed as keyed
 use Rattle.hash_rows.proofs.Fixing.{rows_fixed}
 use Rattle.sink.specs.Numerals.{hex}
 use Rattle.store_path.proofs.Deciding.{same_text}
-use Rattle.hash_modulo.specs.Hashes.{Digest, Fixed, fixed_string, path_of, hashed_rows, with_inputs, HashString, of_fixed, of_text, Hashed, hashed}
+use Rattle.hash_modulo.specs.Hashes.{Digest, fixed_string, path_of, hashed_rows, with_inputs, HashString, of_fixed, of_text, Hashed, hashed}
 use Rattle.hash_modulo.specs.Laws.{OneHash, HashableHasHash, CyclesHaveNone}
-use Rattle.hash_modulo.specs.Sets.{Bytes, Files, Means, Row, Names, Ready, Rests, near, far, Hashable, hashable}
+use Rattle.hash_modulo.specs.Sets.{Bytes, Files, Means, Row, Names, Rests, near, far, Hashable, hashable}
 use Rattle.hash_modulo.proofs.Deciding.{fixed?}
 
 pub one_text : (o : Option Bytes) (t u : Bytes) → o ≡ Some t → o ≡ Some u → t ≡ u

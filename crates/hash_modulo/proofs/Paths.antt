@@ -1,18 +1,18 @@
 -- Right paths are there, and one each.
-use Rattle.std.proofs.Common.{◌≡◌, ℕ, ◌⊎◌, List, [], ◌∷◌, ◌++◌, map, codes, sym, refl, ap, ◌∙◌, subst, inl, inr, ⊎_elim}
+use Rattle.std.proofs.Common.{◌≡◌, ◌⊎◌, List, [], ◌∷◌, ◌++◌, map, codes, sym, refl, ap, ◌∙◌, subst, inl, inr, ⊎_elim}
 use Rattle.std.specs.List.{AllByRecursion as All}
 use Rattle.canonical.specs.Kinds.{Value}
 use Rattle.canonical.specs.Meanings.{an_output, Meaning, canonical}
-use Rattle.canonical.specs.Order.{Under, Member, Rising, Same}
+use Rattle.canonical.specs.Order.{Under, Member, Rising}
 use Rattle.canonical.proofs.Members.{member_all, all_from_member, one_rising}
 use Rattle.canonical.proofs.Orders.{under_trans, trichotomy}
 use Rattle.derivation.specs.Questions.{output_name}
 use Rattle.hash_rows.specs.Keyed as keyed
 use Rattle.hash_rows.proofs.Fixing.{rows_fixed}
 use Rattle.sink.specs.Numerals.{hex}
-use Rattle.hash_modulo.specs.Hashes.{Digest, Fixed, path_of, hashed_rows, with_inputs}
+use Rattle.hash_modulo.specs.Hashes.{Digest, path_of, hashed_rows, with_inputs}
 use Rattle.hash_modulo.specs.Laws.{OwnPaths, OutputPaths}
-use Rattle.hash_modulo.specs.Paths.{made_path, file_name, References, own_type, OwnPath, masked, MaskedString, fixed_path, OutputPath, of_fixed, of_masked}
+use Rattle.hash_modulo.specs.Paths.{made_path, file_name, References, own_type, masked, MaskedString, fixed_path, OutputPath, of_fixed, of_masked}
 use Rattle.hash_modulo.specs.Sets.{Bytes, Row, Names}
 use Rattle.hash_modulo.proofs.Deciding.{fixed?}
 use Rattle.hash_modulo.proofs.Hashes.{no_row, rows_agree}

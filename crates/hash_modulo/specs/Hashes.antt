@@ -1,6 +1,6 @@
 -- The hash of a file modulo its inputs, as a recursive definition without a memo.
 -- Source: E. Dolstra, The Purely Functional Software Deployment Model (2006), section 5.5, and the Nix manual, "Derivations".
-use Rattle.std.specs.Prelude.{◌≡◌, ℕ, List, [], ◌∷◌, ◌++◌, map, codes}
+use Rattle.std.specs.Prelude.{◌≡◌, List, [], ◌∷◌, ◌++◌, map, codes}
 use Rattle.canonical.specs.Kinds.{Value}
 use Rattle.canonical.specs.Meanings.{an_output, Meaning, canonical}
 use Rattle.derivation.specs.Questions.{Given}

@@ -1,6 +1,6 @@
 -- Right paths: the store path of a type, a hash and a name; the file's own path; the paths of its outputs.
 -- Source: E. Dolstra, The Purely Functional Software Deployment Model (2006), section 5.5, and the Nix manual, "Store Path".
-use Rattle.std.specs.Prelude.{◌≡◌, ℕ, Bool, false, cond, ◌||◌, ◌⊎◌, List, [], ◌∷◌, ◌++◌, map, drop, codes}
+use Rattle.std.specs.Prelude.{◌≡◌, Bool, false, cond, ◌||◌, ◌⊎◌, List, [], ◌∷◌, ◌++◌, map, drop, codes}
 use Rattle.std.specs.List.{flat_map}
 use Rattle.std.specs.Str.{bytes_eq}
 use Rattle.canonical.specs.Kinds.{Value}

@@ -1,6 +1,6 @@
 -- Sets of files by their paths, what a file rests on, and which files can have a hash. Nothing here knows numbers or an order of files.
 -- Source: E. Dolstra, The Purely Functional Software Deployment Model (2006), sections 5.4 and 5.5, and the Nix manual, "Derivations".
-use Rattle.std.specs.Prelude.{◌≡◌, ℕ, List, [], ◌∷◌, map, Some, Option}
+use Rattle.std.specs.Prelude.{◌≡◌, ℕ, List, Some, Option}
 use Rattle.canonical.specs.Kinds.{Value}
 use Rattle.canonical.specs.Meanings.{an_output, an_input, Meaning}
 use Rattle.canonical.specs.Order.{Member}

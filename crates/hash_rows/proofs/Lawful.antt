@@ -1,12 +1,11 @@
-use Rattle.std.proofs.Common.{◌≡◌, ℕ, ◌≤◌, min, ◌⊎◌, List, [], ◌∷◌, ◌++◌, length, take, sym, refl, ap, ◌∙◌, subst, inl, inr, arith}
+use Rattle.std.proofs.Common.{◌≡◌, ℕ, ◌⊎◌, List, [], ◌∷◌, ◌++◌, sym, refl, ap, ◌∙◌, subst, inl, inr, arith}
 use Rattle.std.proofs.lemmas.List.{length-take-le}
 use Rattle.canonical.specs.Order.{Under}
 use Rattle.hash_rows.specs.Keyed.{In, Last}
-use Rattle.hash_rows.specs.Rows.{key, no_row, Rising, Gathered}
+use Rattle.hash_rows.specs.Rows.{key, no_row, Rising}
 use Rattle.hash_rows.specs.Seen.{held}
-use Rattle.hash_rows.specs.Laws.{Ordered, RowsOrdered, Climbing, GreatestStands}
+use Rattle.hash_rows.specs.Laws.{RowsOrdered, Climbing, GreatestStands}
 use Rattle.hash_rows.specs.declared.hash.HashRow.{HashRow}
-use Rattle.hash_rows.specs.declared.table.HashRows.{HashRows}
 use Rattle.hash_rows.proofs.Orders.{before_not_same}
 use Rattle.hash_rows.proofs.Rising.{above_in, rises_rising}
 

@@ -1,8 +1,8 @@
 -- What a row put into rising rows leaves.
-use Rattle.std.proofs.Common.{◌≡◌, ℕ, zero, suc, ◌<◌, ◌≤◌, ◌⊎◌, List, [], ◌∷◌, ◌++◌, length, get_or, take, drop, set, sym, refl, ap, ◌∙◌, subst, inl, inr, append_assoc, arith}
+use Rattle.std.proofs.Common.{◌≡◌, ℕ, zero, suc, ◌<◌, ◌⊎◌, List, [], ◌∷◌, length, get_or, set, sym, refl, ap, ◌∙◌, subst, inl, inr, arith}
 use Rattle.std.specs.List.{insert}
 use Rattle.canonical.specs.Order.{Under}
-use Rattle.canonical.proofs.Orders.{under_not_self, under_trans}
+use Rattle.canonical.proofs.Orders.{under_trans}
 use Rattle.hash_rows.proofs.Orders.{before_not_same, test_before, before_test}
 use Rattle.hash_rows.specs.Keyed.{In, Iff, Above, Rising, key_at, Free, Rises, Placed}
 

@@ -1,4 +1,6 @@
 // An ordered table of at most 64 rows by hash, taken and given back by value at each change.
+#![tactic(auto)]
+
 mod hash;
 mod laws;
 mod table;

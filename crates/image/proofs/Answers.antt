@@ -1,9 +1,9 @@
 -- Every image has one answer only.
-use Rattle.std.proofs.Common.{◌≡◌, ℕ, zero, suc, ◌<◌, ◌≤◌, ◌⊎◌, List, Ok, Err, Result, sym, refl, ap, ◌∙◌, subst, inl, inr, arith, below_none, below_more}
+use Rattle.std.proofs.Common.{◌≡◌, ℕ, zero, suc, ◌<◌, ◌≤◌, List, Ok, Err, Result, sym, refl, ap, ◌∙◌, subst, inl, inr, arith, below_none, below_more}
 use Rattle.std.proofs.lemmas.Bool.{cases_order}
 use Rattle.image.specs.Chain.{Sized, Slotted, Good, Chained, BadLink}
 use Rattle.image.specs.Layout.{link, holder}
-use Rattle.image.specs.Opening.{InsideAt, NamedAt, New, Every, FirstNo, Opens, Refused, Answer, OneAnswer}
+use Rattle.image.specs.Opening.{InsideAt, NamedAt, New, Every, FirstNo, Answer, OneAnswer}
 use Rattle.image.specs.declared.refusal.Refusal.{Refusal}
 use Rattle.image.specs.declared.refusal.Refusal.TheVariants.{Size, Slots, Link, Part, Path, Repeated}
 

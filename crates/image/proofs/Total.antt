@@ -1,10 +1,10 @@
 -- Every image has an answer.
-use Rattle.std.proofs.Common.{◌≡◌, ℕ, zero, suc, ◌+◌, ◌<◌, ◌≤◌, ◌⊎◌, List, length, Ok, Err, Result, sym, refl, ap, subst, inl, inr, add-one, arith, below_none, below_more}
+use Rattle.std.proofs.Common.{◌≡◌, ℕ, zero, suc, ◌+◌, ◌<◌, ◌⊎◌, List, length, Ok, Err, Result, refl, subst, inl, inr, add-one, arith, below_more}
 use Rattle.std.proofs.lemmas.Bool.{cases_eq}
 use Rattle.store_path.proofs.Deciding.{Known, both, like, no_longer, at_most, same_text, full_store_path, drv}
 use Rattle.image.specs.Chain.{Sized, Slotted, Good, Chained, BadLink}
 use Rattle.image.specs.Layout.{slot_count, link, holder, path_in, path_length, path_offset, text_length, text_offset}
-use Rattle.image.specs.Opening.{Inside, Named, New, InsideAt, NamedAt, Every, FirstNo, Opens, Refused, Answer, SomeAnswer}
+use Rattle.image.specs.Opening.{New, InsideAt, NamedAt, Every, FirstNo, Answer, SomeAnswer}
 use Rattle.image.specs.declared.refusal.Refusal.{Refusal}
 use Rattle.image.specs.declared.refusal.Refusal.TheVariants.{Size, Slots, Link, Part, Path, Repeated}
 use Rattle.image.proofs.Chains.{room}

@@ -1,6 +1,6 @@
 -- What the code's image and files stand for.
 -- Source: this project's own format (docs/FORMATS.md, "Image").
-use Rattle.std.specs.Prelude.{◌≡◌, ℕ, ◌<◌, ◌≤◌, ◌⊎◌, List, length, Some, None, Ok, Err, Option, Result}
+use Rattle.std.specs.Prelude.{◌≡◌, ℕ, ◌≤◌, List, length, Some, None, Ok, Err, Option, Result}
 use Rattle.std.specs.Borrow.{Bor}
 use Rattle.image.specs.Layout.{file_path, file_text}
 use Rattle.image.specs.Opening.{Opens, Refused}

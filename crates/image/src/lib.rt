@@ -1,4 +1,6 @@
 // The image of derivation files: its layout, the questions put to it, and its files.
+#![tactic(auto)]
+
 mod chain;
 mod fields;
 mod image;

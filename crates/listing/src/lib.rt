@@ -1,4 +1,6 @@
 // What drvcheck prints of an image.
+#![tactic(auto)]
+
 ghost use Rattle.std.specs.Prelude.{◌≡◌, ℕ, ◌+◌, ◌-◌, ◌≤◌, List, [], ◌∷◌, ◌++◌, length};
 ghost use Rattle.image.specs.Files.{bytes_of, files_of};
 ghost use Rattle.sink.specs.Digest.{digest as digest_by};

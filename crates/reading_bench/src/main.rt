@@ -1,6 +1,8 @@
 // Makes a derivation's text of about so many KiB (argument 1, 64 without it), and reads it or writes it in canonical form
 // (argument 2, `read` or `rewrite`) so many times (argument 3, once without it).
 // Prints the text's length, and then the number of environment rows or the canonical text's length.
+#![tactic(auto)]
+
 mod sample;
 
 use anyhow::anyhow;

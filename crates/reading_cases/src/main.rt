@@ -1,5 +1,7 @@
 // Derivation files in base 16, one a line: a name, the file's path and its text. Of each is written what its fault is told by, or that it reads, the digest of its canonical text, and where it first differs from that.
 // The cases stand in stdin, what is expected in stdout.
+#![tactic(auto)]
+
 use aterm::Derivation;
 use canonical::first_difference;
 use derivation::{read_file, tell};

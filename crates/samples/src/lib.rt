@@ -1,4 +1,6 @@
 // Worked examples of the definitions, and what the tests of other crates want.
+#![tactic(auto)]
+
 ghost use Rattle.samples.specs.Samples.{Samples};
 
 mod zeros;
@@ -39,8 +41,8 @@ mod tests {
         let Some(parts) = take_apart(b"/nix/store/x54ai3hgyr1iajmyk1rpzdq339r0lxr2-c0.drv") else {
             return Err(Fail::new("no store path"));
         };
-        assert!(rt; parts.digits == b"x54ai3hgyr1iajmyk1rpzdq339r0lxr2");
-        assert!(rt; parts.name == b"c0.drv");
+        assert!(rt; parts.digits == b"x54ai3hgyr1iajmyk1rpzdq339r0lxr2".as_slice());
+        assert!(rt; parts.name == b"c0.drv".as_slice());
         Ok(())
     }
 

@@ -1,5 +1,5 @@
 -- The bytes of the sample, one by one.
-use Rattle.std.proofs.Common.{◌≡◌, ℕ, ◌+◌, ◌%◌, List, [], ◌∷◌, ◌++◌, sym, refl, ap, ◌∙◌, add-one}
+use Rattle.std.proofs.Common.{◌≡◌, ℕ, ◌+◌, ◌%◌, List, [], ◌∷◌, ◌++◌, refl, ap, ◌∙◌, add-one}
 use Rattle.sha256_bench.specs.Sample.{sample}
 
 pub sample_none : [] ≡ sample 0

@@ -1,4 +1,6 @@
 // Digests 16 MiB that it makes, as often as its argument says (once without one), and prints the digest.
+#![tactic(auto)]
+
 ghost use Rattle.std.specs.Prelude.{◌≡◌, ◌<◌, length, IfOk, MatchResult};
 ghost use Rattle.sha256.specs.Fips as fips;
 ghost use Rattle.sha256_bench.specs.Sample.{sample};

@@ -1,4 +1,6 @@
 // Bytes in base 16, as the programs that run many cases read them.
+#![tactic(auto)]
+
 ghost use Rattle.std.specs.Prelude.{◌≡◌, ◌/◌, ◌<◌, length, IfOk, vec_len};
 
 use std::alloc::{AllocError, Global};

@@ -1,3 +1,5 @@
+#![tactic(auto)]
+
 // The example messages of FIPS 180-4, and the bound on the length of a message.
 #[cfg(test)]
 mod tests {

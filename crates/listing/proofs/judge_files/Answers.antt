@@ -1,6 +1,5 @@
-use Rattle.std.proofs.Common.{◌≡◌, ◌+◌, ◌≢◌, get_or, set, sym, ◌∙◌, subst, arith, length-set, below_more}
+use Rattle.std.proofs.Common.{◌+◌, ◌≢◌, get_or, set, sym, ◌∙◌, subst, arith, length-set, below_more}
 use Rattle.std.proofs.lemmas.List.{get_or-set_same, get_or-set_other}
-use Rattle.derivation.specs.declared.told.Told.{Told}
 use Rattle.image.specs.Files.{bytes_of}
 use Rattle.image.specs.Layout.{file_path, file_text}
 use Rattle.listing.specs.Listing.{Tells, no_fault}

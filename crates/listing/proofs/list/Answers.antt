@@ -1,4 +1,4 @@
-use Rattle.std.proofs.Common.{◌≡◌, ℕ, List, [], ◌++◌, Ok, Err, ap, subst, rules}
+use Rattle.std.proofs.Common.{ℕ, List, [], ◌++◌, Ok, Err, ap, subst, rules}
 use Rattle.image.specs.Files.{files_of}
 use Rattle.sink.specs.Digest.{digest}
 use Rattle.sink.proofs.Writing.{then, stop, as_text}

@@ -1,4 +1,4 @@
-use Rattle.std.proofs.Common.{◌≡◌, ◌+◌, ◌-◌, [], ◌++◌, arith}
+use Rattle.std.proofs.Common.{◌+◌, ◌-◌, arith}
 use Rattle.image.specs.Files.{bytes_of, files_of}
 use Rattle.sink.specs.Digest.{digest}
 use Rattle.sink.proofs.Writing.{then, stop, as_text, done}

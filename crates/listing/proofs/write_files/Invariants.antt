@@ -1,4 +1,4 @@
-use Rattle.std.proofs.Common.{◌+◌, ◌-◌, [], ◌++◌}
+use Rattle.std.proofs.Common.{◌+◌, ◌-◌}
 use Rattle.image.specs.Files.{bytes_of, files_of}
 use Rattle.sink.specs.declared.full.Full.{Full}
 use Rattle.sink.specs.Digest.{digest}

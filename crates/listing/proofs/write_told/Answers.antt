@@ -1,4 +1,4 @@
-use Rattle.std.proofs.Common.{[], ◌∷◌, ◌++◌}
+use Rattle.std.proofs.Common.{◌++◌}
 use Rattle.sink.proofs.Writing.{then, stop}
 use Rattle.listing.specs.Listing.{column}
 use Rattle.listing.proofs.write_told.Goals as goal

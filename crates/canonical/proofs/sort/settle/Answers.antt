@@ -1,4 +1,4 @@
-use Rattle.std.proofs.Common.{ℕ, ◌-◌, ◌<◌, ◌≤◌, length, get_or, refl, inl, inr, arith}
+use Rattle.std.proofs.Common.{◌-◌, ◌<◌, length, get_or, refl, inr, arith}
 use Rattle.std.proofs.lemmas.List.{get_or_default}
 use Rattle.canonical.specs.Kinds.{key}
 use Rattle.canonical.proofs.Sorting.{placing_done, placing_step, seen, unseen, not_less}

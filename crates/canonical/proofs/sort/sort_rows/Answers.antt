@@ -1,4 +1,4 @@
-use Rattle.std.proofs.Common.{◌≡◌, ℕ, length, take, subst, arith, rules}
+use Rattle.std.proofs.Common.{◌≡◌, ℕ, take, subst, arith, rules}
 use Rattle.canonical.specs.Kinds.{key}
 use Rattle.canonical.specs.Order.{Upto}
 use Rattle.canonical.proofs.Sorting.{level_first}

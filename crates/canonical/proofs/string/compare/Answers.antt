@@ -1,4 +1,4 @@
-use Rattle.std.proofs.Common.{◌≡◌, Equal, sym, ◌∙◌, subst}
+use Rattle.std.proofs.Common.{Equal, sym, ◌∙◌, subst}
 use Rattle.canonical.specs.Decode.{Turn}
 use Rattle.canonical.proofs.string.compare.Goals as goal
 

@@ -1,4 +1,4 @@
-use Rattle.std.proofs.Common.{◌≡◌, ◌+◌, ◌⊎◌, ◌∷◌, length, get_or, sym, ap, ◌∙◌, inl, inr, ⊎_elim, arith}
+use Rattle.std.proofs.Common.{◌+◌, ◌∷◌, sym, ap, ◌∙◌, inl, inr, ⊎_elim, arith}
 use Rattle.canonical.specs.Decode.{said}
 use Rattle.canonical.proofs.Decoding.{said_none, said_plain, said_half, said_escaped}
 use Rattle.canonical.proofs.string.next.Goals as goal

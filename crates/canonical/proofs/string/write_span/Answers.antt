@@ -1,4 +1,4 @@
-use Rattle.std.proofs.Common.{[], ◌∷◌, ap}
+use Rattle.std.proofs.Common.{ap}
 use Rattle.sink.proofs.Writing.{then}
 use Rattle.canonical.specs.Decode.{said}
 use Rattle.canonical.proofs.Leading.{lead_more, lead_stop, lead_end, spelt, spelt_more}

@@ -1,4 +1,4 @@
-use Rattle.std.proofs.Common.{◌≡◌, ℕ, ◌-◌, ◌≤◌, List, length, sym, ap, ◌∙◌, subst}
+use Rattle.std.proofs.Common.{◌≡◌, ℕ, ◌≤◌, List, length, sym, ap, ◌∙◌, subst}
 use Rattle.aterm.specs.Grammar.{raw}
 use Rattle.aterm.specs.Reads.{Each}
 use Rattle.aterm.specs.Files.{output, in_output}

@@ -1,4 +1,4 @@
-use Rattle.std.proofs.Common.{refl, arith, rules}
+use Rattle.std.proofs.Common.{refl, arith}
 use Rattle.canonical.proofs.Compared.{compared_taken, compared_kept}
 use Rattle.canonical.proofs.comparer.ComparerSink.write.Goals as goal
 

@@ -1,7 +1,6 @@
 use Rattle.std.proofs.Common.{[], ◌∷◌}
 use Rattle.sink.proofs.Writing.{then, stop}
-use Rattle.canonical.specs.Kinds.{text, rising, ordered, one, also, canons}
-use Rattle.canonical.specs.Meanings.{an_output, an_input, a_variable}
+use Rattle.canonical.specs.Kinds.{text, rising, one, canons}
 use Rattle.canonical.specs.Files.{input_value}
 use Rattle.canonical.proofs.file.InputCanon.write_text.Goals as goal
 

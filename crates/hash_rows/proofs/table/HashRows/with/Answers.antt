@@ -1,4 +1,4 @@
-use Rattle.std.proofs.Common.{ℕ, List, sym, ◌∙◌, subst, arith}
+use Rattle.std.proofs.Common.{ℕ, List, sym, ◌∙◌, subst}
 use Rattle.hash_rows.specs.declared.hash.HashRow.{HashRow}
 use Rattle.hash_rows.specs.Rows.{row_of}
 use Rattle.hash_rows.proofs.Changing.{Changed, changed_set, changed_inserted, room_left}

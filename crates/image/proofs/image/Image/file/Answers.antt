@@ -1,5 +1,5 @@
-use Rattle.std.proofs.Common.{◌≡◌, ◌-◌, ◌<◌, ◌≤◌, get_or, ap, ◌∙◌, arith}
-use Rattle.image.specs.Layout.{link, path_in, text_in}
+use Rattle.std.proofs.Common.{◌-◌, ◌<◌, get_or, ap, ◌∙◌, arith}
+use Rattle.image.specs.Layout.{path_in, text_in}
 use Rattle.image.proofs.Opened.{files_few, slot_some, slot_within, slot_inside, text_short}
 use Rattle.image.proofs.image.Image.file.Goals as goal
 

@@ -1,4 +1,4 @@
-use Rattle.std.proofs.Common.{◌≡◌, ◌-◌, refl, arith}
+use Rattle.std.proofs.Common.{◌-◌, arith}
 use Rattle.image.specs.Opening.{Opens}
 use Rattle.image.proofs.Opened.{walked, opened}
 use Rattle.image.proofs.image.Image.open.Goals as goal
