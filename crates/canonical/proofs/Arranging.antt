@@ -1,7 +1,7 @@
 -- Rows that are arranged and then sorted mean what the tree means.
 use Rattle.std.proofs.Common.{◌≡◌, ℕ, zero, suc, ◌+◌, ◌<◌, ◌≤◌, cond, eqb, ◌⊎◌, List, [], ◌∷◌, map, length, get_or, take, set, sum_by, sym, refl, ap, ◌∙◌, subst, inl, inr, ⊎_elim, arith, length-set, get_or-set_other, get_or-set_same, eq-eqb, ne_eqb}
 use Rattle.std.proofs.lemmas.List.{get_or_read, get_or-map, map-set, length-map}
-use Rattle.std.specs.List.{swap, AllByRecursion as All}
+use Rattle.std.specs.List.{swap, AllByRecursion}
 use Rattle.std.specs.List.Sorted.{IsPermutation}
 use Rattle.std.proofs.ByRecursion.{All-map, all_shuffled}
 use Rattle.std.proofs.lemmas.List.Sums.{sum_by-cons}
@@ -54,7 +54,7 @@ module _ {X : Type 0} (key : X → List ℕ) where
   abbrev many : List ℕ → List X → ℕ
   many s xs = sum_by (λ x. eqs s (key x)) xs
 
-  many_none : (s : List ℕ) (xs : List X) → All (λ y. s ≡ key y → ⊥) xs → many s xs ≡ 0
+  many_none : (s : List ℕ) (xs : List X) → AllByRecursion (λ y. s ≡ key y → ⊥) xs → many s xs ≡ 0
   many_none s [] a = refl
   many_none s (x ∷ xs) a =
       let c = sum_by-cons (λ y. eqs s (key y)) x xs in
@@ -67,7 +67,7 @@ module _ {X : Type 0} (key : X → List ℕ) where
   many_one s (x ∷ xs) d =
       let c = sum_by-cons (λ y. eqs s (key y)) x xs in
       ⊎_elim
-      (λ e. let f = eqs_same s (key x) e in let h = many_none s xs (subst (λ (v : List ℕ). All (λ y. v ≡ key y → ⊥) xs) (sym e) d.0) in omega arith)
+      (λ e. let f = eqs_same s (key x) e in let h = many_none s xs (subst (λ (v : List ℕ). AllByRecursion (λ y. v ≡ key y → ⊥) xs) (sym e) d.0) in omega arith)
       (λ n. let f = eqs_other s (key x) n in let h = many_one s xs d.1 in omega arith)
       (cases_same s (key x))
 
@@ -156,7 +156,7 @@ along_same (v ∷ vs) = (refl, along_same vs)
 
 module _ {T V : Type 0} (A : T → Type 0) where
   pub along_settles : {U : Type 0} (S : T → U → Type 0) (M : U → V → Type 0) (R : T → V → Type 0) → ((t : T) (u : U) (v : V) → A t → S t u → M u v → R t v)
-      → (ts : List T) (us : List U) (vs : List V) → All A ts → Along S ts us → Along M us vs → Along R ts vs
+      → (ts : List T) (us : List U) (vs : List V) → AllByRecursion A ts → Along S ts us → Along M us vs → Along R ts vs
   along_settles S M R h [] [] [] a p q = tt
   along_settles S M R h [] [] (v ∷ vs) a p q = absurd q
   along_settles S M R h [] (u ∷ us) vs a p q = absurd p

@@ -1,6 +1,6 @@
 -- A text that is canonical is written back byte for byte.
 use Rattle.std.proofs.Common.{◌≡◌, ℕ, zero, suc, ◌≤◌, ◌⊎◌, List, [], ◌∷◌, ◌++◌, map, length, sym, refl, ap, ◌∙◌, subst, inl, inr, append_assoc, arith}
-use Rattle.std.specs.List.{AllByRecursion as All, flat_map}
+use Rattle.std.specs.List.{AllByRecursion, flat_map}
 use Rattle.std.proofs.lemmas.List.{map-append}
 use Rattle.aterm.specs.Grammar.{Sign, byte, end, signs, Char, plain, escaped, escape, Tree, Trees, Within, WithinAll, Every, raw, meaning, opener, more, rows, write, writes}
 use Rattle.aterm.specs.Files.{derivation, word, whole}
@@ -32,7 +32,7 @@ not_proper c h (inr (inr (inl e))) = omega arith
 not_proper c h (inr (inr (inr (inl e)))) = omega arith
 not_proper c h (inr (inr (inr (inr e)))) = omega arith
 
-string_back : (cs : List Char) → All Proper cs → raw cs ≡ flat_map spells (meaning cs)
+string_back : (cs : List Char) → AllByRecursion Proper cs → raw cs ≡ flat_map spells (meaning cs)
 string_back [] a = refl
 string_back (plain c o ∷ cs) a =
     ap (λ (l : List ℕ). l ++ raw cs) (spell_plain c (not_quote c o) (not_slash c o) a.0.0 a.0.1.0 a.0.1.1)
@@ -45,7 +45,7 @@ abbrev Back : (k : Kind) → Type 0
 Back k = (t : Tree (shape k)) (v : Value k) → Canonical k t → Within (shape k) t → Means k t v → byte (opener (shape k)) ∷ write (shape k) t ≡ map byte (canon k v)
 
 module _ (k : Kind) (back : Back k) where
-  later_back : (n : ℕ) (ts : List (Tree (shape k))) (vs : List (Value k)) → length ts ≤ n → All (Canonical k) ts → Every (Within (shape k)) ts → Along (Means k) ts vs
+  later_back : (n : ℕ) (ts : List (Tree (shape k))) (vs : List (Value k)) → length ts ≤ n → AllByRecursion (Canonical k) ts → Every (Within (shape k)) ts → Along (Means k) ts vs
       → more (opener (shape k)) (write (shape k)) n ts ≡ map byte (flat_map (comma (canon k)) vs ++ (93 ∷ []))
   later_back n [] [] h c w m = refl
   later_back n [] (v ∷ vs) h c w m = absurd m
@@ -57,7 +57,7 @@ module _ (k : Kind) (back : Back k) where
       ∙ ap (λ (l : List Sign). byte 44 ∷ l) (sym (map-append byte (canon k v) (flat_map (comma (canon k)) vs ++ (93 ∷ []))))
       ∙ ap (λ (l : List ℕ). byte 44 ∷ map byte l) (sym (append_assoc (canon k v) (flat_map (comma (canon k)) vs) (93 ∷ [])))
 
-  list_back : (n : ℕ) (ts : List (Tree (shape k))) (vs : List (Value k)) → length ts ≤ n → All (Canonical k) ts → Every (Within (shape k)) ts → Along (Means k) ts vs
+  list_back : (n : ℕ) (ts : List (Tree (shape k))) (vs : List (Value k)) → length ts ≤ n → AllByRecursion (Canonical k) ts → Every (Within (shape k)) ts → Along (Means k) ts vs
       → byte 91 ∷ rows (opener (shape k)) (write (shape k)) n ts ≡ map byte (listing (canon k) vs)
   list_back n [] [] h c w m = refl
   list_back n [] (v ∷ vs) h c w m = absurd m

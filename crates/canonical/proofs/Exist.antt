@@ -1,6 +1,6 @@
 -- A tree with different keys has a meaning.
 use Rattle.std.proofs.Common.{◌≡◌, ℕ, List, [], ◌∷◌, sym, refl, ◌∙◌, subst, inl, inr, ⊎_elim}
-use Rattle.std.specs.List.{AllByRecursion as All}
+use Rattle.std.specs.List.{AllByRecursion}
 use Rattle.std.proofs.ByRecursion.{All-weaker}
 use Rattle.aterm.specs.Grammar.{Tree, Trees, meaning}
 use Rattle.canonical.specs.Order.{Along, Under, Member, Same, Rising, Different}
@@ -12,7 +12,7 @@ module _ {X : Type 0} (key : X → List ℕ) where
   abbrev Placed : X → List X → Type 0
   Placed x vs = (us : List X) × (Rising key us × Same (x ∷ vs) us)
 
-  insert : (x : X) (vs : List X) → Rising key vs → All (λ y. key x ≡ key y → ⊥) vs → Placed x vs
+  insert : (x : X) (vs : List X) → Rising key vs → AllByRecursion (λ y. key x ≡ key y → ⊥) vs → Placed x vs
   insert x [] r a = (x ∷ [], ((tt, tt), same_refl (x ∷ [])))
   insert x (v ∷ vs) r a =
       ⊎_elim
@@ -65,7 +65,7 @@ mutual
   means_keys (also k ks) t v p = means_key k t.0 v.0 p.0
 
 module _ {T V : Type 0} (M : T → V → Type 0) where
-  each_exists : (P : T → Type 0) → ((t : T) → P t → (v : V) × M t v) → (ts : List T) → All P ts → (vs : List V) × Along M ts vs
+  each_exists : (P : T → Type 0) → ((t : T) → P t → (v : V) × M t v) → (ts : List T) → AllByRecursion P ts → (vs : List V) × Along M ts vs
   each_exists P h [] a = ([], tt)
   each_exists P h (t ∷ ts) a =
       let v = h t a.0 in
@@ -73,7 +73,7 @@ module _ {T V : Type 0} (M : T → V → Type 0) where
       (v.0 ∷ r.0, (v.1, r.1))
 
   module _ (kt : T → List ℕ) (kv : V → List ℕ) (same : (t : T) (v : V) → M t v → kv v ≡ kt t) where
-    apart_one : (t : T) (v : V) → M t v → (ts : List T) (vs : List V) → Along M ts vs → All (λ u. kt t ≡ kt u → ⊥) ts → All (λ w. kv v ≡ kv w → ⊥) vs
+    apart_one : (t : T) (v : V) → M t v → (ts : List T) (vs : List V) → Along M ts vs → AllByRecursion (λ u. kt t ≡ kt u → ⊥) ts → AllByRecursion (λ w. kv v ≡ kv w → ⊥) vs
     apart_one t v m [] [] e a = tt
     apart_one t v m [] (w ∷ vs) e a = absurd e
     apart_one t v m (u ∷ ts) [] e a = absurd e
@@ -85,7 +85,7 @@ module _ {T V : Type 0} (M : T → V → Type 0) where
     apart_each (u ∷ ts) [] e d = absurd e
     apart_each (u ∷ ts) (w ∷ vs) e d = (apart_one u w e.0 ts vs e.1 d.0, apart_each ts vs e.1 d.1)
 
-    under_one : (t : T) (v : V) → M t v → (ts : List T) (vs : List V) → Along M ts vs → All (λ w. Under (kv v) (kv w)) vs → All (λ u. Under (kt t) (kt u)) ts
+    under_one : (t : T) (v : V) → M t v → (ts : List T) (vs : List V) → Along M ts vs → AllByRecursion (λ w. Under (kv v) (kv w)) vs → AllByRecursion (λ u. Under (kt t) (kt u)) ts
     under_one t v m [] [] e a = tt
     under_one t v m [] (w ∷ vs) e a = absurd e
     under_one t v m (u ∷ ts) [] e a = absurd e
@@ -101,7 +101,7 @@ module _ {T V : Type 0} (M : T → V → Type 0) where
     rises_along (u ∷ ts) [] e r = absurd e
     rises_along (u ∷ ts) (w ∷ vs) e r = (under_one u w e.0 ts vs e.1 r.0, rises_along ts vs e.1 r.1)
 
-    over_one : (t : T) (v : V) → M t v → (ts : List T) (vs : List V) → Along M ts vs → All (λ u. Under (kt t) (kt u)) ts → All (λ w. Under (kv v) (kv w)) vs
+    over_one : (t : T) (v : V) → M t v → (ts : List T) (vs : List V) → Along M ts vs → AllByRecursion (λ u. Under (kt t) (kt u)) ts → AllByRecursion (λ w. Under (kv v) (kv w)) vs
     over_one t v m [] [] e a = tt
     over_one t v m [] (w ∷ vs) e a = absurd e
     over_one t v m (u ∷ ts) [] e a = absurd e

@@ -1,6 +1,6 @@
 -- The canonical text of a lawful meaning is written by a tree that means it.
 use Rattle.std.proofs.Common.{◌≡◌, ℕ, zero, suc, ◌≤◌, eqb, List, [], ◌∷◌, ◌++◌, map, length, sym, refl, ap, ◌∙◌, subst, inl, inr, ⊎_elim, append_assoc, arith, ne_eqb}
-use Rattle.std.specs.List.{AllByRecursion as All, flat_map}
+use Rattle.std.specs.List.{AllByRecursion, flat_map}
 use Rattle.std.proofs.lemmas.List.{map-append}
 use Rattle.std.proofs.lemmas.Bool.{cases_eq, cond-false}
 use Rattle.canonical.specs.Strings.{escaped as spells}
@@ -46,7 +46,7 @@ meaning_cons : (c : Char) (cs : List Char) → meaning (c ∷ cs) ≡ meaning (c
 meaning_cons (plain c o) cs = refl
 meaning_cons (escaped c) cs = refl
 
-pub spell : (v : List ℕ) → (cs : List Char) × ((raw cs ≡ flat_map spells v) × ((v ≡ meaning cs) × All Proper cs))
+pub spell : (v : List ℕ) → (cs : List Char) × ((raw cs ≡ flat_map spells v) × ((v ≡ meaning cs) × AllByRecursion Proper cs))
 spell [] = ([], (refl, (refl, tt)))
 spell (b ∷ v) =
     let c = spell_byte b in
@@ -81,10 +81,10 @@ record Later (k : Kind) (n : ℕ) (vs : List (Value k)) : Type 0 where
   pub written : more (opener (shape k)) (write (shape k)) n trees ≡ map byte (flat_map (comma (canon k)) vs ++ (93 ∷ []))
   pub within : Every (Within (shape k)) trees
   pub means : Along (Means k) trees vs
-  pub proper : All (Canonical k) trees
+  pub proper : AllByRecursion (Canonical k) trees
 
 module _ (k : Kind) (home : (v : Value k) → Lawful k v → Homed k v) where
-  later : (n : ℕ) (vs : List (Value k)) → length vs ≤ n → All (Lawful k) vs → Later k n vs
+  later : (n : ℕ) (vs : List (Value k)) → length vs ≤ n → AllByRecursion (Lawful k) vs → Later k n vs
   later n [] h a = record { trees = []; written = refl; within = tt; means = tt; proper = tt }
   later zero (v ∷ vs) h a = absurd (omega arith)
   later (suc n) (v ∷ vs) h a =
@@ -107,9 +107,9 @@ module _ (k : Kind) (home : (v : Value k) → Lawful k v → Homed k v) where
     pub written : byte 91 ∷ rows (opener (shape k)) (write (shape k)) n trees ≡ map byte (listing (canon k) vs)
     pub within : Every (Within (shape k)) trees
     pub means : Along (Means k) trees vs
-    pub proper : All (Canonical k) trees
+    pub proper : AllByRecursion (Canonical k) trees
 
-  lists : (n : ℕ) (vs : List (Value k)) → length vs ≤ n → All (Lawful k) vs → Lists n vs
+  lists : (n : ℕ) (vs : List (Value k)) → length vs ≤ n → AllByRecursion (Lawful k) vs → Lists n vs
   lists n [] h a = record { trees = []; written = refl; within = tt; means = tt; proper = tt }
   lists zero (v ∷ vs) h a = absurd (omega arith)
   lists (suc n) (v ∷ vs) h a =

@@ -1,15 +1,15 @@
 -- Lists with the same rows.
 use Rattle.std.proofs.Common.{◌≡◌, ℕ, ◌+◌, ◌≤◌, List, [], ◌∷◌, length, sym, refl, ap, ◌∙◌, subst, inl, inr, ⊎_elim, arith}
-use Rattle.std.specs.List.{AllByRecursion as All}
+use Rattle.std.specs.List.{AllByRecursion}
 use Rattle.canonical.specs.Order.{Under, Member, Same, Rising}
 use Rattle.canonical.proofs.Orders.{under_not_self, under_trans}
 
-pub member_all : {X : Type 0} (P : X → Type 0) (xs : List X) (x : X) → All P xs → Member x xs → P x
+pub member_all : {X : Type 0} (P : X → Type 0) (xs : List X) (x : X) → AllByRecursion P xs → Member x xs → P x
 member_all P [] x a m = absurd m
 member_all P (y ∷ xs) x a (inl e) = subst P (sym e) a.0
 member_all P (y ∷ xs) x a (inr m) = member_all P xs x a.1 m
 
-pub all_from_member : {X : Type 0} (P : X → Type 0) (xs : List X) → ((x : X) → Member x xs → P x) → All P xs
+pub all_from_member : {X : Type 0} (P : X → Type 0) (xs : List X) → ((x : X) → Member x xs → P x) → AllByRecursion P xs
 all_from_member P [] h = tt
 all_from_member P (x ∷ xs) h = (h x (inl refl), all_from_member P xs (λ y m. h y (inr m)))
 
@@ -24,7 +24,7 @@ same_trans s t = record { there = λ x m. t.there x (s.there x m); back = λ x m
 
 module _ {X : Type 0} (key : X → List ℕ) where
   -- a row is not among those after it
-  not_later : (x : X) (xs : List X) → All (λ y. Under (key x) (key y)) xs → (z : X) → z ≡ x → Member z xs → ⊥
+  not_later : (x : X) (xs : List X) → AllByRecursion (λ y. Under (key x) (key y)) xs → (z : X) → z ≡ x → Member z xs → ⊥
   not_later x xs a z e m = under_not_self (key x) (subst (λ (v : X). Under (key x) (key v)) e (member_all (λ y. Under (key x) (key y)) xs z a m))
 
   first : (x y : X) (xs ys : List X) → Rising key (x ∷ xs) → Rising key (y ∷ ys) → Same (x ∷ xs) (y ∷ ys) → x ≡ y

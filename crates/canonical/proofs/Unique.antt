@@ -1,6 +1,6 @@
 -- A tree has one meaning at most, and it is lawful.
 use Rattle.std.proofs.Common.{◌≡◌, suc, List, [], ◌∷◌, length, sym, refl, ap, ◌∙◌, subst, arith}
-use Rattle.std.specs.List.{AllByRecursion as All}
+use Rattle.std.specs.List.{AllByRecursion}
 use Rattle.aterm.specs.Grammar.{Tree, Trees, Within, WithinAll, Every}
 use Rattle.canonical.specs.Order.{Along, Same}
 use Rattle.canonical.specs.Kinds.{Kind, text, entry, ordered, rising, Kinds, one, also, shape, shapes, Value, Values, key, Means, MeansAll, Lawful, AllLawful}
@@ -40,7 +40,7 @@ each_length M [] (v ∷ vs) p = absurd p
 each_length M (t ∷ ts) [] p = absurd p
 each_length M (t ∷ ts) (v ∷ vs) p = ap suc (each_length M ts vs p.1)
 
-each_keeps : {T V : Type 0} (M : T → V → Type 0) (P : T → Type 0) (Q : V → Type 0) → ((t : T) (v : V) → P t → M t v → Q v) → (ts : List T) (vs : List V) → Every P ts → Along M ts vs → All Q vs
+each_keeps : {T V : Type 0} (M : T → V → Type 0) (P : T → Type 0) (Q : V → Type 0) → ((t : T) (v : V) → P t → M t v → Q v) → (ts : List T) (vs : List V) → Every P ts → Along M ts vs → AllByRecursion Q vs
 each_keeps M P Q h [] [] w p = tt
 each_keeps M P Q h [] (v ∷ vs) w p = absurd p
 each_keeps M P Q h (t ∷ ts) [] w p = absurd p

@@ -1,7 +1,7 @@
 -- Canonical as a property of a text: rows strictly rising by what their keys mean, and no escape but those that are needed.
 -- Source: this project's own rule (docs/FORMATS.md).
 use Rattle.std.specs.Prelude.{◌≡◌, ℕ, ◌⊎◌, List, [], ◌∷◌, ◌≢◌}
-use Rattle.std.specs.List.{AllByRecursion as All}
+use Rattle.std.specs.List.{AllByRecursion}
 use Rattle.aterm.specs.Grammar.{Char, plain, escaped, raw, meaning, Tree, Trees, Within, signs}
 use Rattle.aterm.specs.Files.{derivation, whole}
 use Rattle.canonical.specs.Strings.{quoted}
@@ -17,10 +17,10 @@ Proper (escaped c) = (c ≡ 34) ⊎ ((c ≡ 92) ⊎ ((c ≡ 110) ⊎ ((c ≡ 114
 
 abbrev mutual
   pub Canonical : (k : Kind) → Tree (shape k) → Type 0
-  Canonical text cs = All Proper cs
+  Canonical text cs = AllByRecursion Proper cs
   Canonical (entry ks) t = AllCanonical ks t
-  Canonical (ordered n k) ts = All (Canonical k) ts
-  Canonical (rising n k) ts = Rising (tree_key k) ts × All (Canonical k) ts
+  Canonical (ordered n k) ts = AllByRecursion (Canonical k) ts
+  Canonical (rising n k) ts = Rising (tree_key k) ts × AllByRecursion (Canonical k) ts
 
   pub AllCanonical : (ks : Kinds) → Trees (shapes ks) → Type 0
   AllCanonical (one k) t = Canonical k t

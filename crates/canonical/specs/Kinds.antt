@@ -1,7 +1,7 @@
 -- What the parts of a derivation's text mean, by kinds: strings, rows, lists whose order counts, and maps and sets; and their canonical text.
 -- Source: E. Dolstra, The Purely Functional Software Deployment Model (2006), section 5.4; the Nix manual, "Derivations".
 use Rattle.std.specs.Prelude.{◌≡◌, ℕ, ◌≤◌, List, [], ◌∷◌, ◌++◌, length}
-use Rattle.std.specs.List.{AllByRecursion as All, flat_map}
+use Rattle.std.specs.List.{AllByRecursion, flat_map}
 use Rattle.std.specs.List.Sorted.{IsPermutation}
 use Rattle.canonical.specs.Strings.{quoted}
 use Rattle.aterm.specs.Grammar.{Shape, string, row, list, Fields, last, field, Tree, Trees, meaning}
@@ -86,8 +86,8 @@ abbrev mutual
   pub Apart : (k : Kind) → Tree (shape k) → Type 0
   Apart text cs = Unit {0}
   Apart (entry ks) t = AllApart ks t
-  Apart (ordered n k) ts = All (Apart k) ts
-  Apart (rising n k) ts = Different (tree_key k) ts × All (Apart k) ts
+  Apart (ordered n k) ts = AllByRecursion (Apart k) ts
+  Apart (rising n k) ts = Different (tree_key k) ts × AllByRecursion (Apart k) ts
 
   pub AllApart : (ks : Kinds) → Trees (shapes ks) → Type 0
   AllApart (one k) t = Apart k t
@@ -98,8 +98,8 @@ abbrev mutual
   pub Lawful : (k : Kind) → Value k → Type 0
   Lawful text v = Unit {0}
   Lawful (entry ks) v = AllLawful ks v
-  Lawful (ordered n k) vs = (length vs ≤ n) × All (Lawful k) vs
-  Lawful (rising n k) vs = (length vs ≤ n) × (All (Lawful k) vs × Rising (key k) vs)
+  Lawful (ordered n k) vs = (length vs ≤ n) × AllByRecursion (Lawful k) vs
+  Lawful (rising n k) vs = (length vs ≤ n) × (AllByRecursion (Lawful k) vs × Rising (key k) vs)
 
   pub AllLawful : (ks : Kinds) → Values ks → Type 0
   AllLawful (one k) v = Lawful k v

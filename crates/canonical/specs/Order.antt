@@ -2,7 +2,7 @@
 -- Source: this project's own rule (docs/FORMATS.md): rows are sorted by what their keys mean, byte by byte, a prefix first.
 use Rattle.std.specs.Prelude.{◌≡◌, ℕ, ◌<◌, ◌⊎◌, List, [], ◌∷◌, ◌≢◌, slice_index_or}
 use Rattle.std.specs.declared.cmp.Ordering.{Ordering}
-use Rattle.std.specs.List.{AllByRecursion as All}
+use Rattle.std.specs.List.{AllByRecursion}
 use Rattle.std.specs.Ordering.{MatchOrdering}
 
 -- a string stands before another: byte order, a prefix first
@@ -31,16 +31,16 @@ pub record Same {X : Type 0} (xs ys : List X) : Type 0 where
 -- each key stands before all later ones
 abbrev pub Rising : {X : Type 0} → (X → List ℕ) → List X → Type 0
 Rising key [] = Unit {0}
-Rising key (x ∷ xs) = All (λ y. Under (key x) (key y)) xs × Rising key xs
+Rising key (x ∷ xs) = AllByRecursion (λ y. Under (key x) (key y)) xs × Rising key xs
 
 -- no later key stands before an earlier one
 abbrev pub Level : {X : Type 0} → (X → List ℕ) → List X → Type 0
 Level key [] = Unit {0}
-Level key (x ∷ xs) = All (λ y. Under (key y) (key x) → ⊥) xs × Level key xs
+Level key (x ∷ xs) = AllByRecursion (λ y. Under (key y) (key x) → ⊥) xs × Level key xs
 
 abbrev pub Different : {X : Type 0} → (X → List ℕ) → List X → Type 0
 Different key [] = Unit {0}
-Different key (x ∷ xs) = All (λ y. key x ≢ key y) xs × Different key xs
+Different key (x ∷ xs) = AllByRecursion (λ y. key x ≢ key y) xs × Different key xs
 
 -- o is the order of two strings
 abbrev pub Compared : List ℕ → List ℕ → Ordering → Type 0

@@ -1,7 +1,7 @@
 -- What holds of every list of calls from a newly opened checker on, for every kind of digest sink and every image that opens.
 -- Source: this project's own rule (docs/PROMISES.md, "Runs").
 use Rattle.std.specs.Prelude.{◌≡◌, ℕ, ◌+◌, ◌%◌, ◌^◌, ◌<◌, ◌≤◌, true, ◌⊎◌, List, [], ◌∷◌, ◌++◌, length, take, Some, None, Ok, Err, Option, Result}
-use Rattle.std.specs.List.{AllByRecursion as All}
+use Rattle.std.specs.List.{AllByRecursion}
 use Rattle.canonical.specs.Meanings.{Meaning, canonical}
 use Rattle.canonical.specs.Order.{Member}
 use Rattle.hash_modulo.specs.Laws.{Iff}
@@ -97,7 +97,7 @@ Distinct (k ∷ ks) = (Member k ks → ⊥) × Distinct ks
 
 pub record Right (kind : Kind) (img : Bytes) (n : ℕ) (es : List Event) (t : Stage) : Type 0 where
   -- every answer is the definition's
-  pub answers : All (EventRight kind img n) es
+  pub answers : AllByRecursion (EventRight kind img n) es
   -- the image stays, and every settled file has the definition's verdict and hashes
   pub opened : t.view.opened ≡ true
   pub image : t.view.image ≡ img

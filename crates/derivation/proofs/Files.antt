@@ -1,6 +1,6 @@
 -- From the rows of one list to all that a question is put to.
 use Rattle.std.proofs.Common.{◌≡◌, List, [], ◌∷◌, ◌++◌, Some, None, Option, sym, refl, ap, ◌∙◌, append_assoc}
-use Rattle.std.specs.List.{AllByRecursion as All}
+use Rattle.std.specs.List.{AllByRecursion}
 use Rattle.std.proofs.ByRecursion.{All-append, All-weaker}
 use Rattle.aterm.specs.Grammar.{Tree}
 use Rattle.aterm.specs.Files.{derivation}
@@ -21,10 +21,10 @@ first_like Y Z to back rows (Some w) f = record {
 
 module _ (Yes : Entry → Type 0) where
   abbrev pub Clear : List (Spot × Entry) → Type 0
-  Clear = All (λ e. Yes e.1)
+  Clear = AllByRecursion (λ e. Yes e.1)
 
   module _ {E : Type 0} (f : E → Entry) where
-    all_tagged : (rows : List (Spot × E)) → All (λ e. Yes (f e.1)) rows → Clear (tagged f rows)
+    all_tagged : (rows : List (Spot × E)) → AllByRecursion (λ e. Yes (f e.1)) rows → Clear (tagged f rows)
     all_tagged [] a = tt
     all_tagged (e ∷ rows) a = (a.0, all_tagged rows a.1)
 

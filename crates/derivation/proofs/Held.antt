@@ -4,7 +4,7 @@ use Rattle.std.proofs.lemmas.Bool.Decides.{Decides-eqb, Decides-not, Decides-at,
 use Rattle.aterm.specs.Grammar.{Shape, Tree, Char}
 use Rattle.aterm.specs.Reads.{Each, Spans}
 use Rattle.aterm.specs.declared.rows.Placed.{Placed}
-use Rattle.std.specs.List.{ContainsAt as Has, AllByRecursion as All}
+use Rattle.std.specs.List.{ContainsAt as Has, AllByRecursion}
 use Rattle.std.specs.Str.{bytes_eq}
 use Rattle.std.proofs.lemmas.Bool.{false≢true}
 use Rattle.std.proofs.lemmas.Slice.Eq.{bytes_eq-Decides}
@@ -43,7 +43,7 @@ pub decides_leb : (a b : ℕ) → Decides (leb a b) (a ≤ b)
 decides_leb a b = ⊎_elim (λ p. (λ _. p.1, λ _. p.0)) (λ p. (λ t. absurd (false≢true (sym p.0 ∙ t)), λ h. absurd (omega (arith, p.1)))) (leb_tells a b)
 
 abbrev pub Called : Kind → List ℕ → List ℕ → Type 0
-Called k a h = ((a ≡ spelt k) ⊎ (a ≡ codes "r:" ++ spelt k)) × (length h ≡ digits k) × All (Has hex) h
+Called k a h = ((a ≡ spelt k) ⊎ (a ≡ codes "r:" ++ spelt k)) × (length h ≡ digits k) × AllByRecursion (Has hex) h
 
 module _ (a h : List ℕ) where
   as_given : (k : Kind) → Called k a h → Given a h

@@ -1,6 +1,6 @@
 -- One fault at most.
 use Rattle.std.proofs.Common.{◌≡◌, ℕ, ◌<◌, cond, eqb, List, [], ◌∷◌, ◌++◌, Some, None, sym, refl, ap, ◌∙◌, subst, ⊎_elim, arith, lit<}
-use Rattle.std.specs.List.{AllByRecursion as All}
+use Rattle.std.specs.List.{AllByRecursion}
 use Rattle.std.proofs.str.Laws.{order}
 use Rattle.aterm.specs.declared.fault.Fault.{Fault as TextFault}
 use Rattle.aterm.specs.declared.file.Derivation.{Derivation}
@@ -18,7 +18,7 @@ use Rattle.derivation.proofs.Plain.{plain_fields}
 use Rattle.derivation.proofs.Scan.{never_all}
 
 module _ {E : Type 0} (Yes : E → Type 0) where
-  once : (a b : List (Spot × E)) (w v : Spot) (d e : E) (p q : List (Spot × E)) → a ++ (w, d) ∷ p ≡ b ++ (v, e) ∷ q → All (λ r. Yes r.1) a → (Yes d → ⊥) → All (λ r. Yes r.1) b → (Yes e → ⊥) → w ≡ v
+  once : (a b : List (Spot × E)) (w v : Spot) (d e : E) (p q : List (Spot × E)) → a ++ (w, d) ∷ p ≡ b ++ (v, e) ∷ q → AllByRecursion (λ r. Yes r.1) a → (Yes d → ⊥) → AllByRecursion (λ r. Yes r.1) b → (Yes e → ⊥) → w ≡ v
   once [] [] w v d e p q g ca rd cb re = let h : ◌≡◌ {A = Spot × E} (w, d) (v, e) = cc in ap (λ z. z.0) h
   once [] (y ∷ b) w v d e p q g ca rd cb re = let h : ◌≡◌ {A = Spot × E} (w, d) y = cc in absurd (rd (subst (λ z. Yes z.1) (sym h) cb.0))
   once (x ∷ a) [] w v d e p q g ca rd cb re = let h : ◌≡◌ {A = Spot × E} x (v, e) = cc in absurd (re (subst (λ z. Yes z.1) h ca.0))
@@ -28,7 +28,7 @@ module _ {E : Type 0} (Yes : E → Type 0) where
   first_once rows w v f g = once f.before g.before w v f.row g.row f.after g.after (sym f.whole ∙ g.whole) f.clean f.refused g.clean g.refused
 
   pub not_both : (rows : List (Spot × E)) (w : Spot) → FirstNo Yes rows w → First Yes rows None → ⊥
-  not_both rows w f a = never_all Yes f.before f.after w f.row f.refused (subst (All (λ e. Yes e.1)) f.whole a)
+  not_both rows w f a = never_all Yes f.before f.after w f.row f.refused (subst (AllByRecursion (λ e. Yes e.1)) f.whole a)
 
 asked : ℕ → Question
 asked n = cond (eqb n 13) Present (cond (eqb n 14) Formed (cond (eqb n 15) Different (cond (eqb n 16) Fixed Short)))

@@ -1,6 +1,6 @@
 -- Where question 14 is answered yes, the bytes of fields 1 to 3 are what they mean.
 use Rattle.std.proofs.Common.{List, [], ◌∷◌, ◌++◌, None, sym}
-use Rattle.std.specs.List.{AllByRecursion as All}
+use Rattle.std.specs.List.{AllByRecursion}
 use Rattle.aterm.specs.Grammar.{Tree, string}
 use Rattle.aterm.specs.Files.{output, input, derivation}
 use Rattle.derivation.specs.declared.spot.Spot.{Spot}
@@ -10,19 +10,19 @@ use Rattle.derivation.specs.Plain.{AsItStands, PlainOutput, PlainInput, PlainFie
 use Rattle.derivation.proofs.Scan.{to_throughout}
 use Rattle.derivation.proofs.Meant.{plain_means}
 
-pub all_first : {X : Type 0} (P : X → Type 0) (a b : List X) → All P (a ++ b) → All P a
+pub all_first : {X : Type 0} (P : X → Type 0) (a b : List X) → AllByRecursion P (a ++ b) → AllByRecursion P a
 all_first P [] b h = tt
 all_first P (x ∷ a) b h = (h.0, all_first P a b h.1)
 
-pub all_second : {X : Type 0} (P : X → Type 0) (a b : List X) → All P (a ++ b) → All P b
+pub all_second : {X : Type 0} (P : X → Type 0) (a b : List X) → AllByRecursion P (a ++ b) → AllByRecursion P b
 all_second P [] b h = h
 all_second P (x ∷ a) b h = all_second P a b h.1
 
-untagged : {E : Type 0} (Yes : Entry → Type 0) (f : E → Entry) (rows : List (Spot × E)) → All (λ e. Yes e.1) (tagged f rows) → All (λ e. Yes (f e.1)) rows
+untagged : {E : Type 0} (Yes : Entry → Type 0) (f : E → Entry) (rows : List (Spot × E)) → AllByRecursion (λ e. Yes e.1) (tagged f rows) → AllByRecursion (λ e. Yes (f e.1)) rows
 untagged Yes f [] a = tt
 untagged Yes f (e ∷ rows) a = (a.0, untagged Yes f rows a.1)
 
-from_each : {X : Type 0} (Yes : List X → X → Type 0) (P : X → Type 0) → ((ys : List X) (x : X) → Yes ys x → P x) → (ys xs : List X) → Throughout Yes ys xs → All P xs
+from_each : {X : Type 0} (Yes : List X → X → Type 0) (P : X → Type 0) → ((ys : List X) (x : X) → Yes ys x → P x) → (ys xs : List X) → Throughout Yes ys xs → AllByRecursion P xs
 from_each Yes P h ys [] a = tt
 from_each Yes P h ys (x ∷ xs) a = (h ys x a.0, from_each Yes P h (ys ++ x ∷ []) xs a.1)
 
@@ -61,10 +61,10 @@ module _ (x : Tree derivation) (a : First formed (entries x) None) where
 
   pub plain_fields : PlainFields x
   plain_fields =
-      let os : All P outs = all_first P outs (ins ++ (srcs ++ vars)) a.1 in
-      let after : All P (ins ++ (srcs ++ vars)) = all_second P outs (ins ++ (srcs ++ vars)) a.1 in
-      let is : All P ins = all_first P ins (srcs ++ vars) after in
-      let ss : All P srcs = all_first P srcs vars (all_second P ins (srcs ++ vars) after) in
+      let os : AllByRecursion P outs = all_first P outs (ins ++ (srcs ++ vars)) a.1 in
+      let after : AllByRecursion P (ins ++ (srcs ++ vars)) = all_second P outs (ins ++ (srcs ++ vars)) a.1 in
+      let is : AllByRecursion P ins = all_first P ins (srcs ++ vars) after in
+      let ss : AllByRecursion P srcs = all_first P srcs vars (all_second P ins (srcs ++ vars) after) in
       record {
         outputs = from_each formed_output PlainOutput plain_output [] x.0 (to_throughout output formed_output 1 8 [] x.0 (untagged formed output_row (output_rows x) os));
         inputs = from_each formed_input PlainInput plain_input [] x.1.0 (to_throughout input formed_input 2 _ [] x.1.0 (untagged formed input_row (input_rows x) is));

@@ -1,6 +1,6 @@
 -- The turns of a scan, and that it has one answer.
 use Rattle.std.proofs.Common.{◌≡◌, ℕ, zero, suc, ◌+◌, ◌<◌, ◌≤◌, not, List, [], ◌∷◌, ◌++◌, length, get_or, take, is_some, Some, None, Decides, Option, sym, refl, ap, ◌∙◌, subst, append_assoc, append-nil, arith, take_all}
-use Rattle.std.specs.List.{AllByRecursion as All}
+use Rattle.std.specs.List.{AllByRecursion}
 use Rattle.std.proofs.ByRecursion.{All-append}
 use Rattle.aterm.specs.Grammar.{Shape, Tree}
 use Rattle.aterm.specs.Reads.{Each, past}
@@ -71,11 +71,11 @@ module _ {V : Type 0} (s : Shape) (H : ℕ → V → Tree s → Type 0) where
 
   module _ (Yes : List (Tree s) → Tree s → Type 0) (number : ℕ) where
     abbrev pub Clean : ℕ → List (Tree s) → Type 0
-    Clean from xs = All (λ e. Yes e.1.0 e.1.1) (rows_at s number from [] xs)
+    Clean from xs = AllByRecursion (λ e. Yes e.1.0 e.1.1) (rows_at s number from [] xs)
 
     module _ (from : ℕ) (vs : List (Placed V)) (xs : List (Tree s)) (i : ℕ) (v : Placed V) (r : Split from vs xs i v) (c : Clean from (take i xs)) where
       pub clean_more : Yes (take i xs) r.x → Clean from (take (suc i) xs)
-      clean_more y = subst (Clean from) (sym r.next) (subst (All (λ e. Yes e.1.0 e.1.1)) (sym (rows_append s number from [] (take i xs) (r.x ∷ []))) (All-append (λ e. Yes e.1.0 e.1.1) (rows_at s number from [] (take i xs)) (rows_at s number (ends s from (take i xs)) (take i xs) (r.x ∷ [])) c (y, tt)))
+      clean_more y = subst (Clean from) (sym r.next) (subst (AllByRecursion (λ e. Yes e.1.0 e.1.1)) (sym (rows_append s number from [] (take i xs) (r.x ∷ []))) (All-append (λ e. Yes e.1.0 e.1.1) (rows_at s number from [] (take i xs)) (rows_at s number (ends s from (take i xs)) (take i xs) (r.x ∷ [])) c (y, tt)))
 
       pub found : (Yes (take i xs) r.x → ⊥) → FirstNo (λ e. Yes e.0 e.1) (rows_at s number from [] xs) (record { field = number; row = i + 1; place = v.place })
       found n = record {
@@ -94,19 +94,19 @@ module _ {V : Type 0} (s : Shape) (H : ℕ → V → Tree s → Type 0) where
     clean_all from vs xs i h a c = subst (Clean from) (take_all i xs (omega (arith, each_length from vs xs a))) c
 
 -- a no stands against a yes of every row
-pub never_all : {E : Type 0} (Yes : E → Type 0) (before after : List (Spot × E)) (w : Spot) (e : E) → (Yes e → ⊥) → All (λ r. Yes r.1) (before ++ (w, e) ∷ after) → ⊥
+pub never_all : {E : Type 0} (Yes : E → Type 0) (before after : List (Spot × E)) (w : Spot) (e : E) → (Yes e → ⊥) → AllByRecursion (λ r. Yes r.1) (before ++ (w, e) ∷ after) → ⊥
 never_all Yes [] after w e n a = n a.0
 never_all Yes (b ∷ before) after w e n a = never_all Yes before after w e n a.1
 
-pub first_decides : {E : Type 0} (Yes : E → Type 0) (rows : List (Spot × E)) (r : Option Spot) → First Yes rows r → Decides (not (is_some r)) (All (λ e. Yes e.1) rows)
+pub first_decides : {E : Type 0} (Yes : E → Type 0) (rows : List (Spot × E)) (r : Option Spot) → First Yes rows r → Decides (not (is_some r)) (AllByRecursion (λ e. Yes e.1) rows)
 first_decides Yes rows None f = (λ t. f, λ a. refl)
-first_decides Yes rows (Some w) f = (λ t. absurd (false≢true t), λ a. absurd (never_all Yes f.before f.after w f.row f.refused (subst (All (λ e. Yes e.1)) f.whole a)))
+first_decides Yes rows (Some w) f = (λ t. absurd (false≢true t), λ a. absurd (never_all Yes f.before f.after w f.row f.refused (subst (AllByRecursion (λ e. Yes e.1)) f.whole a)))
 
 module _ (s : Shape) (Yes : List (Tree s) → Tree s → Type 0) (number : ℕ) where
-  pub to_throughout : (at : ℕ) (ys xs : List (Tree s)) → All (λ e. Yes e.1.0 e.1.1) (rows_at s number at ys xs) → Throughout Yes ys xs
+  pub to_throughout : (at : ℕ) (ys xs : List (Tree s)) → AllByRecursion (λ e. Yes e.1.0 e.1.1) (rows_at s number at ys xs) → Throughout Yes ys xs
   to_throughout at ys [] a = tt
   to_throughout at ys (x ∷ xs) a = (a.0, to_throughout (past s at x) (ys ++ x ∷ []) xs a.1)
 
-  pub from_throughout : (at : ℕ) (ys xs : List (Tree s)) → Throughout Yes ys xs → All (λ e. Yes e.1.0 e.1.1) (rows_at s number at ys xs)
+  pub from_throughout : (at : ℕ) (ys xs : List (Tree s)) → Throughout Yes ys xs → AllByRecursion (λ e. Yes e.1.0 e.1.1) (rows_at s number at ys xs)
   from_throughout at ys [] a = tt
   from_throughout at ys (x ∷ xs) a = (a.0, from_throughout (past s at x) (ys ++ x ∷ []) xs a.1)

@@ -1,7 +1,7 @@
 -- A question that is put to rows in their order, and the first row of which the answer is no.
 -- Source: this project's own rule (docs/CALLS.md).
 use Rattle.std.specs.Prelude.{◌≡◌, ℕ, ◌+◌, Bool, List, [], ◌∷◌, ◌++◌, length, Some, None, Decides, Option}
-use Rattle.std.specs.List.{AllByRecursion as All}
+use Rattle.std.specs.List.{AllByRecursion}
 use Rattle.aterm.specs.Grammar.{Shape, Tree, Char, raw}
 use Rattle.aterm.specs.Reads.{Each, past, Spans}
 use Rattle.aterm.specs.declared.rows.Placed.{Placed}
@@ -13,12 +13,12 @@ pub record FirstNo {E : Type 0} (Yes : E → Type 0) (rows : List (Spot × E)) (
   pub row : E
   pub after : List (Spot × E)
   pub whole : rows ≡ before ++ (w, row) ∷ after
-  pub clean : All (λ e. Yes e.1) before
+  pub clean : AllByRecursion (λ e. Yes e.1) before
   pub refused : Yes row → ⊥
 
 -- the answer is yes of every row, or `w` is where the first no is
 abbrev pub First : {E : Type 0} → (E → Type 0) → List (Spot × E) → Option Spot → Type 0
-First Yes rows None = All (λ e. Yes e.1) rows
+First Yes rows None = AllByRecursion (λ e. Yes e.1) rows
 First Yes rows (Some w) = FirstNo Yes rows w
 
 module _ (s : Shape) (number : ℕ) where

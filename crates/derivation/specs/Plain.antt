@@ -1,7 +1,7 @@
 -- Fields 1, 2 and 3 of a file in which no string has an escape: the bytes that stand there are what is meant.
 -- Source: this project's own rule (docs/CALLS.md). Strings and their escapes: E. Dolstra, The Purely Functional Software Deployment Model (2006), section 5.4.
 use Rattle.std.specs.Prelude.{◌≡◌}
-use Rattle.std.specs.List.{AllByRecursion as All}
+use Rattle.std.specs.List.{AllByRecursion}
 use Rattle.aterm.specs.Grammar.{Tree, string, raw, meaning}
 use Rattle.aterm.specs.Files.{output, input, derivation}
 
@@ -17,10 +17,10 @@ pub record PlainOutput (x : Tree output) : Type 0 where
 
 pub record PlainInput (x : Tree input) : Type 0 where
   pub path : AsItStands x.0
-  pub names : All AsItStands x.1
+  pub names : AllByRecursion AsItStands x.1
 
 -- each string of the outputs, the input files and the input sources
 pub record PlainFields (x : Tree derivation) : Type 0 where
-  pub outputs : All PlainOutput x.0
-  pub inputs : All PlainInput x.1.0
-  pub sources : All AsItStands x.1.1.0
+  pub outputs : AllByRecursion PlainOutput x.0
+  pub inputs : AllByRecursion PlainInput x.1.0
+  pub sources : AllByRecursion AsItStands x.1.1.0

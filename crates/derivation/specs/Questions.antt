@@ -1,7 +1,7 @@
 -- The questions 13 to 17 to a file that is read, and what each asks of a row.
 -- Source: this project's own rule (docs/CALLS.md). What outputs, inputs and fixed hashes are: E. Dolstra, The Purely Functional Software Deployment Model (2006), section 5.4, and the Nix manual, "Derivations".
 use Rattle.std.specs.Prelude.{◌≡◌, ℕ, ◌+◌, ◌-◌, ◌≤◌, cond, ◌⊎◌, List, [], ◌∷◌, ◌++◌, length, take, drop, codes, Option, ◌≢◌}
-use Rattle.std.specs.List.{ContainsAt as Has, AllByRecursion as All}
+use Rattle.std.specs.List.{ContainsAt as Has, AllByRecursion}
 use Rattle.std.specs.Str.{bytes_eq}
 use Rattle.aterm.specs.Grammar.{string, list, Tree, raw, meaning}
 use Rattle.aterm.specs.Reads.{past}
@@ -96,7 +96,7 @@ formed (variable_row e) = Unit {0}
 
 -- 15: keys different, by what they mean, and the names of an input row too
 abbrev pub fresh : {X : Type 0} → (X → Tree string) → List X → X → Type 0
-fresh key ys x = All (λ y. meaning (key y) ≢ meaning (key x)) ys
+fresh key ys x = AllByRecursion (λ y. meaning (key y) ≢ meaning (key x)) ys
 
 abbrev pub different_output : List (Tree output) → Tree output → Type 0
 different_output = fresh (λ y. y.0)
@@ -143,7 +143,7 @@ hex = codes "0123456789abcdef"
 pub record GivenAs (k : Kind) (algorithm hash : List ℕ) : Type 0 where
   pub named : (algorithm ≡ spelt k) ⊎ (algorithm ≡ codes "r:" ++ spelt k)
   pub long : length hash ≡ digits k
-  pub each : All (Has hex) hash
+  pub each : AllByRecursion (Has hex) hash
 
 abbrev pub Given : List ℕ → List ℕ → Type 0
 Given algorithm hash = (k : Kind) × GivenAs k algorithm hash

@@ -1,13 +1,13 @@
 // Digits of base 16.
 ghost use Rattle.std.specs.Prelude.{Decides};
-ghost use Rattle.std.specs.List.{ContainsAt as Has, AllByRecursion as All};
+ghost use Rattle.std.specs.List.{ContainsAt as Has, AllByRecursion};
 ghost use Rattle.derivation.specs.Questions.{hex};
 
 const HEX: &[u8] = b"0123456789abcdef";
 
 // Whether each byte of `s` is one of `alphabet`.
 fn all_in(s: &[u8], alphabet: &[u8]) -> bool
-    ensures { Decides result (All (Has alphabet.now) s.now) }
+    ensures { Decides result (AllByRecursion (Has alphabet.now) s.now) }
 {
     for c in s {
         if !alphabet.contains(c) {
@@ -19,7 +19,7 @@ fn all_in(s: &[u8], alphabet: &[u8]) -> bool
 
 // Whether each byte is a digit, a letter in lower case only.
 pub fn all_hex(s: &[u8]) -> bool
-    ensures { Decides result (All (Has hex) s.now) }
+    ensures { Decides result (AllByRecursion (Has hex) s.now) }
 {
     all_in(s, HEX)
 }

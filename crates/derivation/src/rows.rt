@@ -2,7 +2,7 @@
 ghost use Rattle.std.specs.Prelude.{◌≡◌, ℕ, ◌-◌, ◌<◌, ◌≤◌, T as Is, ◌⊎◌, List, length, Decides};
 ghost use Rattle.aterm.specs.Grammar.{raw, Tree};
 ghost use Rattle.aterm.specs.Reads.{Each};
-ghost use Rattle.std.specs.List.{ContainsAt as Has, AllByRecursion as All};
+ghost use Rattle.std.specs.List.{ContainsAt as Has, AllByRecursion};
 ghost use Rattle.aterm.specs.Files.{output, input, in_output, in_input};
 ghost use Rattle.derivation.specs.Asked.{Spanned, Cuts, Held};
 ghost use Rattle.derivation.specs.Questions.{named, blank as both_blank, Given, FixedFile, hashed, name_length, hex};
@@ -66,7 +66,7 @@ impl Ask<Output> for Columns {
 
 // Whether the algorithm is called so, and the hash has so many digits.
 fn is_called(algorithm: &[u8], hash: &[u8], name: &[u8], marked: &[u8], count: usize) -> bool
-    ensures { Decides result (((algorithm.now ≡ name.now) ⊎ (algorithm.now ≡ marked.now)) × (length hash.now ≡ count) × All (Has hex) hash.now) }
+    ensures { Decides result (((algorithm.now ≡ name.now) ⊎ (algorithm.now ≡ marked.now)) × (length hash.now ≡ count) × AllByRecursion (Has hex) hash.now) }
 {
     (same(algorithm, name) || same(algorithm, marked)) && hash.len() == count && all_hex(hash)
 }

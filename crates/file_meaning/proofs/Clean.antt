@@ -2,7 +2,7 @@
 use Rattle.std.proofs.Common.{◌≡◌, ℕ, Bool, true, false, cond, ◌||◌, eqb, ◌⊎◌, List, [], ◌∷◌, ◌++◌, codes, sym, refl, ap, subst, inl, inr}
 use Rattle.std.proofs.ByRecursion.{All-append, all-has, All-weaker}
 use Rattle.std.proofs.lemmas.Bool.{true≢false}
-use Rattle.std.specs.List.{ContainsAt as Has, AllByRecursion as All}
+use Rattle.std.specs.List.{ContainsAt as Has, AllByRecursion}
 use Rattle.aterm.specs.Grammar.{Char, plain, escaped, escape, raw, meaning}
 use Rattle.store_path.specs.Names.{Name, Based, StorePath, name_bytes, digits_32}
 use Rattle.derivation.specs.Questions.{Plain, Kind, md5, sha1, sha256, sha512, spelt, GivenAs, hex}
@@ -13,7 +13,7 @@ abbrev pub special : ℕ → Bool
 special c = eqb c 34 || (eqb c 92 || (eqb c 10 || (eqb c 13 || eqb c 9)))
 
 abbrev pub Clean : List ℕ → Type 0
-Clean v = All (λ c. special c ≡ false) v
+Clean v = AllByRecursion (λ c. special c ≡ false) v
 
 -- a table of bytes of which none is special, by a test of the whole
 abbrev none_special : List ℕ → Bool
@@ -35,7 +35,7 @@ needless c (inr (inr (inl e))) z = true≢false (subst (λ (x : ℕ). special (e
 needless c (inr (inr (inr (inl e)))) z = true≢false (subst (λ (x : ℕ). special (escape x) ≡ false) e z)
 needless c (inr (inr (inr (inr e)))) z = true≢false (subst (λ (x : ℕ). special (escape x) ≡ false) e z)
 
-pub raw_clean : (cs : List Char) → All Proper cs → Clean (meaning cs) → raw cs ≡ meaning cs
+pub raw_clean : (cs : List Char) → AllByRecursion Proper cs → Clean (meaning cs) → raw cs ≡ meaning cs
 raw_clean [] p c = refl
 raw_clean (plain b o ∷ cs) p c = ap (λ (l : List ℕ). b ∷ l) (raw_clean cs p.1 c.1)
 raw_clean (escaped b ∷ cs) p c = absurd (needless b p.0 c.0)
@@ -43,7 +43,7 @@ raw_clean (escaped b ∷ cs) p c = absurd (needless b p.0 c.0)
 pub clean_plain : (s : List ℕ) → Clean s → Plain s
 clean_plain s c h = true≢false (all-has (λ b. special b ≡ false) s 92 c h)
 
-clean_from : (table s : List ℕ) → Clean table → All (Has table) s → Clean s
+clean_from : (table s : List ℕ) → Clean table → AllByRecursion (Has table) s → Clean s
 clean_from table s c a = All-weaker (Has table) (λ b. special b ≡ false) (λ b h. all-has (λ x. special x ≡ false) table b c h) s a
 
 pub clean_name : (s : List ℕ) → Name s → Clean s

@@ -1,7 +1,7 @@
 -- The questions on one file, list by list: what it is for a tree to pass them all.
 use Rattle.std.proofs.Common.{◌≡◌, ℕ, ◌≤◌, ◌⊎◌, List, [], ◌∷◌, ◌++◌, length, None, inl, inr}
 use Rattle.std.proofs.ByRecursion.{All-append}
-use Rattle.std.specs.List.{AllByRecursion as All}
+use Rattle.std.specs.List.{AllByRecursion}
 use Rattle.aterm.specs.Files.{output, input, variable, derivation}
 use Rattle.aterm.specs.Grammar.{Tree, string, raw}
 use Rattle.derivation.proofs.Plain.{all_first, all_second}
@@ -37,10 +37,10 @@ module _ (Y : Entry → Type 0) (x : Tree derivation) where
   abbrev vars : List (Spot × Entry)
   vars = tagged variable_row (variable_rows x)
 
-  split : All P (entries x) → Split Y x
+  split : AllByRecursion P (entries x) → Split Y x
   split a =
-      let after : All P (ins ++ (srcs ++ vars)) = all_second P outs (ins ++ (srcs ++ vars)) a.1 in
-      let rest : All P (srcs ++ vars) = all_second P ins (srcs ++ vars) after in
+      let after : AllByRecursion P (ins ++ (srcs ++ vars)) = all_second P outs (ins ++ (srcs ++ vars)) a.1 in
+      let rest : AllByRecursion P (srcs ++ vars) = all_second P ins (srcs ++ vars) after in
       record {
         whole = a.0;
         outputs = throughout output 1 output_row Y _ [] x.0 (all_first P outs (ins ++ (srcs ++ vars)) a.1);
@@ -49,7 +49,7 @@ module _ (Y : Entry → Type 0) (x : Tree derivation) where
         variables = throughout variable 7 variable_row Y _ [] x.1.1.1.1.1.1 (all_second P srcs vars rest);
       }
 
-  join : Split Y x → All P (entries x)
+  join : Split Y x → AllByRecursion P (entries x)
   join s = (
     s.whole,
     All-append P outs (ins ++ (srcs ++ vars)) (tagged_all output 1 output_row Y _ [] x.0 s.outputs)
@@ -58,32 +58,32 @@ module _ (Y : Entry → Type 0) (x : Tree derivation) where
   )
 
 -- every row is fixed by the whole, or is blank: the whole is fixed, or all are blank
-either : {X : Type 0} (F : Type 0) (B : X → Type 0) (xs : List X) → All (λ x. F ⊎ B x) xs → F ⊎ All B xs
+either : {X : Type 0} (F : Type 0) (B : X → Type 0) (xs : List X) → AllByRecursion (λ x. F ⊎ B x) xs → F ⊎ AllByRecursion B xs
 either F B [] a = inr tt
 either F B (x ∷ xs) a = one a.0 (either F B xs a.1)
   where
-    one : F ⊎ B x → F ⊎ All B xs → F ⊎ All B (x ∷ xs)
+    one : F ⊎ B x → F ⊎ AllByRecursion B xs → F ⊎ AllByRecursion B (x ∷ xs)
     one (inl f) r = inl f
     one (inr b) (inl f) = inl f
     one (inr b) (inr r) = inr (b, r)
 
-neither : {X : Type 0} (F : Type 0) (B : X → Type 0) (xs : List X) → F ⊎ All B xs → All (λ x. F ⊎ B x) xs
+neither : {X : Type 0} (F : Type 0) (B : X → Type 0) (xs : List X) → F ⊎ AllByRecursion B xs → AllByRecursion (λ x. F ⊎ B x) xs
 neither F B [] r = tt
 neither F B (x ∷ xs) (inl f) = (inl f, neither F B xs (inl f))
 neither F B (x ∷ xs) (inr b) = (inr b.0, neither F B xs (inr b.1))
 
 pub record Passes (path : List ℕ) (x : Tree derivation) : Type 0 where
   pub some : x.0 ≡ [] → ⊥
-  pub names : All (named []) x.1.0
-  pub outputs : All (formed_output []) x.0
-  pub inputs : All (formed_input []) x.1.0
-  pub sources : All (formed_source []) x.1.1.0
+  pub names : AllByRecursion (named []) x.1.0
+  pub outputs : AllByRecursion (formed_output []) x.0
+  pub inputs : AllByRecursion (formed_input []) x.1.0
+  pub sources : AllByRecursion (formed_source []) x.1.1.0
   pub new_outputs : Throughout different_output [] x.0
   pub new_inputs : Throughout different_input [] x.1.0
   pub new_sources : Throughout different_source [] x.1.1.0
   pub new_variables : Throughout different_variable [] x.1.1.1.1.1.1
-  pub fixed : FixedFile x.0 ⊎ All blank x.0
-  pub brief : All (λ o. length (output_name path (raw o.0)) ≤ 211) x.0
+  pub fixed : FixedFile x.0 ⊎ AllByRecursion blank x.0
+  pub brief : AllByRecursion (λ o. length (output_name path (raw o.0)) ≤ 211) x.0
 
 anything : {X : Type 0} (ys xs : List X) → Throughout (λ _ _. Unit {0}) ys xs
 anything ys [] = tt

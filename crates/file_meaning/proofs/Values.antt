@@ -1,6 +1,6 @@
 -- To pass the questions is a property of the meaning: a canonical tree of the same meaning passes them too.
 use Rattle.std.proofs.Common.{◌≡◌, ℕ, ◌≤◌, ◌⊎◌, List, [], ◌∷◌, length, codes, sym, refl, ap, ◌∙◌, subst, inl, inr, arith}
-use Rattle.std.specs.List.{AllByRecursion as All}
+use Rattle.std.specs.List.{AllByRecursion}
 use Rattle.aterm.specs.Files.{output, input, variable, derivation}
 use Rattle.aterm.specs.Grammar.{Tree, string, raw, meaning}
 use Rattle.store_path.specs.Names.{Name, StorePath, Drv}
@@ -21,9 +21,9 @@ use Rattle.file_meaning.proofs.Trees.{Passes}
 
 -- what holds of each row holds of each value of a map or set
 module _ (k : Kind) (n : ℕ) (P : Tree (shape k) → Type 0) (Q : Value k → Type 0) (f : (t : Tree (shape k)) (v : Value k) → Means k t v → P t → Q v) where
-  values_all : (ts : List (Tree (shape k))) (vs : List (Value k)) → Means (rising n k) ts vs → All P ts → All Q vs
+  values_all : (ts : List (Tree (shape k))) (vs : List (Value k)) → Means (rising n k) ts vs → AllByRecursion P ts → AllByRecursion Q vs
   values_all ts vs (ws, (a, s)) p =
-      let q : All Q ws = along_there (Means k) P Q f ts ws a p in
+      let q : AllByRecursion Q ws = along_there (Means k) P Q f ts ws a p in
       all_from_member Q vs (λ v m. member_all Q ws v q (s.same.back v m))
 
 -- rising rows stand beside the values in their order
@@ -63,7 +63,7 @@ abbrev pub FormedOutput : Value an_output → Type 0
 FormedOutput o = Name o.0 × StorePath o.1.0
 
 abbrev pub FormedInput : Value an_input → Type 0
-FormedInput i = (StorePath i.0 × Drv i.0) × All Name i.1
+FormedInput i = (StorePath i.0 × Drv i.0) × AllByRecursion Name i.1
 
 abbrev pub HashedOutput : Value an_output → Type 0
 HashedOutput o = (o.0 ≡ codes "out") × Given o.1.1.0 o.1.1.1
@@ -78,12 +78,12 @@ pub record FixedValue (os : List (Value an_output)) : Type 0 where
 
 pub record ProperMeaning (path : List ℕ) (m : Meaning) : Type 0 where
   pub some : m.0 ≡ [] → ⊥
-  pub names : All (λ i. i.1 ≡ [] → ⊥) m.1.0
-  pub outputs : All FormedOutput m.0
-  pub inputs : All FormedInput m.1.0
-  pub sources : All StorePath m.1.1.0
-  pub fixed : FixedValue m.0 ⊎ All BlankOutput m.0
-  pub brief : All (λ o. length (output_name path o.0) ≤ 211) m.0
+  pub names : AllByRecursion (λ i. i.1 ≡ [] → ⊥) m.1.0
+  pub outputs : AllByRecursion FormedOutput m.0
+  pub inputs : AllByRecursion FormedInput m.1.0
+  pub sources : AllByRecursion StorePath m.1.1.0
+  pub fixed : FixedValue m.0 ⊎ AllByRecursion BlankOutput m.0
+  pub brief : AllByRecursion (λ o. length (output_name path o.0) ≤ 211) m.0
 
 -- ---- from a tree that passes to its meaning
 
@@ -122,11 +122,11 @@ hashed_there t v m f h = (
   subst (λ (a : List ℕ). Given a v.1.1.1) (bare t.1.1.0 v.1.1.0 m.1.1.0 f.1.0) (subst (Given (raw t.1.1.0)) (bare t.1.1.1 v.1.1.1 m.1.1.1 f.1.1) h.1),
 )
 
-all_both : {X : Type 0} (P Q : X → Type 0) (xs : List X) → All P xs → All Q xs → All (λ x. P x × Q x) xs
+all_both : {X : Type 0} (P Q : X → Type 0) (xs : List X) → AllByRecursion P xs → AllByRecursion Q xs → AllByRecursion (λ x. P x × Q x) xs
 all_both P Q [] a b = tt
 all_both P Q (x ∷ xs) a b = ((a.0, b.0), all_both P Q xs a.1 b.1)
 
-fixed_there : (ts : List (Tree output)) (vs : List (Value an_output)) → Means (rising 16 an_output) ts vs → All (formed_output []) ts → FixedFile ts → FixedValue vs
+fixed_there : (ts : List (Tree output)) (vs : List (Value an_output)) → Means (rising 16 an_output) ts vs → AllByRecursion (formed_output []) ts → FixedFile ts → FixedValue vs
 fixed_there ts vs (ws, (a, s)) f x = one ws (subst (λ (l : List (Tree output)). Along (Means an_output) l ws) x.whole a) s
   where
     one : (ws : List (Value an_output)) → Along (Means an_output) (x.only ∷ []) ws → Sorts (key an_output) ws vs → FixedValue vs
@@ -134,7 +134,7 @@ fixed_there ts vs (ws, (a, s)) f x = one ws (subst (λ (l : List (Tree output)).
     one (w ∷ []) b s = record {
       only = w;
       whole = sym (one_rising (key an_output) (w ∷ []) vs (tt, tt) s.rises s.same);
-      given = hashed_there x.only w b.0 (subst (All (formed_output [])) x.whole f).0 x.given;
+      given = hashed_there x.only w b.0 (subst (AllByRecursion (formed_output [])) x.whole f).0 x.given;
     }
     one (w ∷ u ∷ ws) b s = absurd b.1
 
@@ -151,13 +151,13 @@ proper path x m means p = record {
       (all_both (formed_output []) (λ t. length (output_name path (raw t.0)) ≤ 211) x.0 p.outputs p.brief);
 }
   where
-    way : FixedFile x.0 ⊎ All blank x.0 → FixedValue m.0 ⊎ All BlankOutput m.0
+    way : FixedFile x.0 ⊎ AllByRecursion blank x.0 → FixedValue m.0 ⊎ AllByRecursion BlankOutput m.0
     way (inl f) = inl (fixed_there x.0 m.0 means.0 p.outputs f)
     way (inr b) = inr (values_all an_output 16 (λ t. formed_output [] t × blank t) BlankOutput blank_there x.0 m.0 means.0 (all_both (formed_output []) blank x.0 p.outputs b))
 
 -- ---- from a meaning to its canonical tree
 
-module _ (cs : Tree string) (v : List ℕ) (e : v ≡ meaning cs) (p : All Proper cs) (c : Clean v) where
+module _ (cs : Tree string) (v : List ℕ) (e : v ≡ meaning cs) (p : AllByRecursion Proper cs) (c : Clean v) where
   stands : raw cs ≡ v
   stands = raw_clean cs p (subst Clean e c) ∙ sym e
 
@@ -171,10 +171,10 @@ CleanColumns o = Clean o.1.1.0 × Clean o.1.1.1
 blank_clean : (o : Value an_output) → BlankOutput o → CleanColumns o
 blank_clean o b = (subst Clean (sym b.0) tt, subst Clean (sym b.1) tt)
 
-columns : (os : List (Value an_output)) → FixedValue os ⊎ All BlankOutput os → All CleanColumns os
+columns : (os : List (Value an_output)) → FixedValue os ⊎ AllByRecursion BlankOutput os → AllByRecursion CleanColumns os
 columns os (inl f) =
     let g = f.given.1 in
-    subst (All CleanColumns) (sym f.whole) ((clean_algorithm g.0 f.only.1.1.0 f.only.1.1.1 g.1, clean_hash g.0 f.only.1.1.0 f.only.1.1.1 g.1), tt)
+    subst (AllByRecursion CleanColumns) (sym f.whole) ((clean_algorithm g.0 f.only.1.1.0 f.only.1.1.1 g.1, clean_hash g.0 f.only.1.1.0 f.only.1.1.1 g.1), tt)
 columns os (inr b) = all_map BlankOutput CleanColumns blank_clean os b
 
 abbrev OutputClean : Value an_output → Type 0
@@ -191,17 +191,17 @@ output_back t v m c (f, k) =
       (unescaped t.1.1.0 v.1.1.0 m.1.1.0 c.1.1.0 k.0, unescaped t.1.1.1 v.1.1.1 m.1.1.1 c.1.1.1 k.1),
     )
 
-name_back : (t : Tree string) (v : List ℕ) → v ≡ meaning t → All Proper t → Name v → formed_name [] t
+name_back : (t : Tree string) (v : List ℕ) → v ≡ meaning t → AllByRecursion Proper t → Name v → formed_name [] t
 name_back t v e c n = (unescaped t v e c (clean_name v n), subst Name (sym (stands t v e c (clean_name v n))) n)
 
-source_back : (t : Tree string) (v : List ℕ) → v ≡ meaning t → All Proper t → StorePath v → formed_source [] t
+source_back : (t : Tree string) (v : List ℕ) → v ≡ meaning t → AllByRecursion Proper t → StorePath v → formed_source [] t
 source_back t v e c s = (unescaped t v e c (clean_store v s), subst StorePath (sym (stands t v e c (clean_store v s))) s)
 
 input_back : (t : Tree input) (v : Value an_input) → Means an_input t v → Canonical an_input t → FormedInput v → formed_input [] t
 input_back t v m c ((s, d), ns) =
     let p = stands t.0 v.0 m.0 c.0 (clean_store v.0 s) in (
       ((unescaped t.0 v.0 m.0 c.0 (clean_store v.0 s), subst StorePath (sym p) s), subst Drv (sym p) d),
-      rows_each (formed_name []) [] t.1 (along_back_with (Means text) (All Proper) (formed_name []) Name name_back t.1 v.1 (aligned text 16 t.1 v.1 m.1 c.1.0) c.1.1 ns),
+      rows_each (formed_name []) [] t.1 (along_back_with (Means text) (AllByRecursion Proper) (formed_name []) Name name_back t.1 v.1 (aligned text 16 t.1 v.1 m.1 c.1.0) c.1.1 ns),
     )
 
 named_back : (t : Tree input) (v : Value an_input) → Means an_input t v → Canonical an_input t → (v.1 ≡ [] → ⊥) → named [] t
@@ -223,11 +223,11 @@ hashed_back t v m c (f, k) h = (
       (subst (Given v.1.1.0) (sym (stands t.1.1.1 v.1.1.1 m.1.1.1 c.1.1.1 k.1)) h.1),
 )
 
-fixed_back : (ts : List (Tree output)) (vs : List (Value an_output)) → Along (Means an_output) ts vs → All (Canonical an_output) ts → All OutputClean vs → FixedValue vs → FixedFile ts
+fixed_back : (ts : List (Tree output)) (vs : List (Value an_output)) → Along (Means an_output) ts vs → AllByRecursion (Canonical an_output) ts → AllByRecursion OutputClean vs → FixedValue vs → FixedFile ts
 fixed_back [] vs a c k f = absurd (filled f.only [] (sym f.whole ∙ along_none (Means an_output) [] vs a refl))
 fixed_back (t ∷ ts) vs a c k f =
     let b : Along (Means an_output) (t ∷ ts) (f.only ∷ []) = subst (Along (Means an_output) (t ∷ ts)) f.whole a in
-    let n : All OutputClean (f.only ∷ []) = subst (All OutputClean) f.whole k in
+    let n : AllByRecursion OutputClean (f.only ∷ []) = subst (AllByRecursion OutputClean) f.whole k in
     record { only = t; whole = ap (λ (l : List (Tree output)). t ∷ l) (none ts b.1); given = hashed_back t f.only b.0 c.0 n.0 f.given }
   where
     none : (us : List (Tree output)) → Along (Means an_output) us [] → us ≡ []
@@ -242,13 +242,13 @@ again path x m means c p =
     let outs = aligned an_output 16 x.0 m.0 means.0 c.0.0 in
     let ins = aligned an_input 64 x.1.0 m.1.0 means.1.0 c.1.0.0 in
     let srcs = aligned text 64 x.1.1.0 m.1.1.0 means.1.1.0 c.1.1.0.0 in
-    let clean : All OutputClean m.0 = all_both FormedOutput CleanColumns m.0 p.outputs (columns m.0 p.fixed) in
+    let clean : AllByRecursion OutputClean m.0 = all_both FormedOutput CleanColumns m.0 p.outputs (columns m.0 p.fixed) in
     record {
       some = λ e. p.some (along_none (Means an_output) x.0 m.0 outs e);
       names = along_back_with (Means an_input) (Canonical an_input) (named []) (λ i. i.1 ≡ [] → ⊥) named_back x.1.0 m.1.0 ins c.1.0.1 p.names;
       outputs = along_back_with (Means an_output) (Canonical an_output) (formed_output []) OutputClean output_back x.0 m.0 outs c.0.1 clean;
       inputs = along_back_with (Means an_input) (Canonical an_input) (formed_input []) FormedInput input_back x.1.0 m.1.0 ins c.1.0.1 p.inputs;
-      sources = along_back_with (Means text) (All Proper) (formed_source []) StorePath source_back x.1.1.0 m.1.1.0 srcs c.1.1.0.1 p.sources;
+      sources = along_back_with (Means text) (AllByRecursion Proper) (formed_source []) StorePath source_back x.1.1.0 m.1.1.0 srcs c.1.1.0.1 p.sources;
       new_outputs = new_from_rising (λ o. o.0) x.0 c.0.0;
       new_inputs =
           through_both (fresh (λ i. i.0)) (λ _ i. Throughout (fresh (λ n. n)) [] i.1) [] x.1.0 (new_from_rising (λ i. i.0) x.1.0 c.1.0.0)
@@ -261,21 +261,21 @@ again path x m means c p =
           (all_both FormedOutput (λ v. length (output_name path v.0) ≤ 211) m.0 p.outputs p.brief);
     }
   where
-    way : Along (Means an_output) x.0 m.0 → All OutputClean m.0 → FixedValue m.0 ⊎ All BlankOutput m.0 → FixedFile x.0 ⊎ All blank x.0
+    way : Along (Means an_output) x.0 m.0 → AllByRecursion OutputClean m.0 → FixedValue m.0 ⊎ AllByRecursion BlankOutput m.0 → FixedFile x.0 ⊎ AllByRecursion blank x.0
     way outs clean (inl f) = inl (fixed_back x.0 m.0 outs c.0.1 clean f)
     way outs clean (inr b) = inr (along_back_with (Means an_output) (Canonical an_output) blank BlankOutput blank_back x.0 m.0 outs c.0.1 b)
 
 -- ---- keys that differ
 
-row_apart : (ts : List (Tree output)) → All (Apart an_output) ts
+row_apart : (ts : List (Tree output)) → AllByRecursion (Apart an_output) ts
 row_apart [] = tt
 row_apart (t ∷ ts) = ((tt, (tt, (tt, tt))), row_apart ts)
 
-variable_apart : (ts : List (Tree variable)) → All (Apart a_variable) ts
+variable_apart : (ts : List (Tree variable)) → AllByRecursion (Apart a_variable) ts
 variable_apart [] = tt
 variable_apart (t ∷ ts) = ((tt, tt), variable_apart ts)
 
-string_apart : (ts : List (Tree string)) → All (Apart text) ts
+string_apart : (ts : List (Tree string)) → AllByRecursion (Apart text) ts
 string_apart [] = tt
 string_apart (t ∷ ts) = (tt, string_apart ts)
 

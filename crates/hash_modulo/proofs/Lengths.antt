@@ -1,6 +1,6 @@
 -- Every string that is digested for a file within the limits is shorter than 1,048,576 bytes.
 use Rattle.std.proofs.Common.{◌≡◌, ℕ, ◌+◌, ◌-◌, ◌*◌, ◌<◌, ◌≤◌, eqb, ◌⊎◌, List, [], ◌∷◌, ◌++◌, map, length, drop, codes, sym, refl, ap, subst, inl, inr, ⊎_elim, arith, length-append, length-drop, length-take}
-use Rattle.std.specs.List.{flat_map, AllByRecursion as All}
+use Rattle.std.specs.List.{flat_map, AllByRecursion}
 use Rattle.std.specs.Str.{bytes_eq}
 use Rattle.std.proofs.lemmas.Bool.{cond_both}
 use Rattle.canonical.specs.Kinds.{Value, comma, listing, canon}
@@ -298,7 +298,7 @@ member_in x [] i = absurd i
 member_in x (y ∷ xs) (inl e) = inl e
 member_in x (y ∷ xs) (inr i) = inr (member_in x xs i)
 
-above_all : (h : Bytes) (rows : List Row) → keyed.Above path_of h rows → All (λ (y : Row). Under h y.0) rows
+above_all : (h : Bytes) (rows : List Row) → keyed.Above path_of h rows → AllByRecursion (λ (y : Row). Under h y.0) rows
 above_all h [] a = tt
 above_all h (x ∷ rows) a = (a.0, above_all h rows a.1)
 
@@ -404,25 +404,25 @@ abbrev Short : Bytes → Type 0
 Short s = length s < 1048576
 
 own_all : {path : Bytes} {m : Meaning} {rs : List Bytes} (d : Digest) → Wide d → Limits path m → References m rs → (ss : List Bytes)
-    → All Short ss → All Short (own_strings d path m rs ++ ss)
+    → AllByRecursion Short ss → AllByRecursion Short (own_strings d path m rs ++ ss)
 own_all {path} {m} {rs} d w l x ss a = (canonical_short l, (own_short l x (hex (d (canonical m))) (hex_short d w (canonical m)), a))
 
-fixed_all : {path : Bytes} {m : Meaning} (d : Digest) → Wide d → Limits path m → (f : Fixed m) → All Short (fixed_strings d path f.only)
+fixed_all : {path : Bytes} {m : Meaning} (d : Digest) → Wide d → Limits path m → (f : Fixed m) → AllByRecursion Short (fixed_strings d path f.only)
 fixed_all {path} {m} d w l f =
     let o = f.only in
-    cond_both (bytes_eq o.1.1.0 (codes "r:sha256")) _ _ (λ ss. All Short ss)
+    cond_both (bytes_eq o.1.1.0 (codes "r:sha256")) _ _ (λ ss. AllByRecursion Short ss)
     (λ _. (fixed_path_short l f (codes "source") (omega arith) o.1.1.1 (inr refl), tt))
     (λ _. (inner_short l f, (fixed_path_short l f (codes "output:out") (omega arith) (hex (d (inner_string o))) (inl (hex_short d w (inner_string o))), tt)))
 
 outputs_all : {path : Bytes} {m : Meaning} (d : Digest) → Wide d → Limits path m → (t : Bytes) (os : List (Value an_output))
-    → ((o : Value an_output) → Member o os → Member o m.0) → All Short (map (output_string d path t) os)
+    → ((o : Value an_output) → Member o os → Member o m.0) → AllByRecursion Short (map (output_string d path t) os)
 outputs_all d w l t [] i = tt
 outputs_all d w l t (o ∷ os) i = (output_short l o (i o (inl refl)) (hex (d t)) (hex_short d w t), outputs_all d w l t os (λ x j. i x (inr j)))
 
 pub strings_short_at : {path : Bytes} {m : Meaning} {g : Bytes → Bytes} {ss : List Bytes} (d : Digest) → Wide d → Limits path m
-    → ((r : Row) → Names m r → length (g r.0) ≡ 32) → FileStrings d path g m ss → All (λ (s : Bytes). length s < 1048576) ss
+    → ((r : Row) → Names m r → length (g r.0) ≡ 32) → FileStrings d path g m ss → AllByRecursion (λ (s : Bytes). length s < 1048576) ss
 strings_short_at {path} {m} {g} d w l h (of_fixed f rs x e) =
-    subst (λ (ss : List Bytes). All Short ss) (sym e) (own_all d w l x (fixed_string f.only ∷ fixed_strings d path f.only) (fixed_short l f, fixed_all d w l f))
+    subst (λ (ss : List Bytes). AllByRecursion Short ss) (sym e) (own_all d w l x (fixed_string f.only ∷ fixed_strings d path f.only) (fixed_short l f, fixed_all d w l f))
 strings_short_at {path} {m} {g} d w l h (of_text n rs x s p t q e) =
-    subst (λ (ss : List Bytes). All Short ss) (sym e)
+    subst (λ (ss : List Bytes). AllByRecursion Short ss) (sym e)
     (own_all d w l x (s ∷ t ∷ map (output_string d path t) m.0) (hash_string_short g l h p, (masked_string_short g l h q, outputs_all d w l t m.0 (λ o i. i))))

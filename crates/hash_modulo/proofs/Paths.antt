@@ -1,6 +1,6 @@
 -- Right paths are there, and one each.
 use Rattle.std.proofs.Common.{◌≡◌, ◌⊎◌, List, [], ◌∷◌, ◌++◌, map, codes, sym, refl, ap, ◌∙◌, subst, inl, inr, ⊎_elim}
-use Rattle.std.specs.List.{AllByRecursion as All}
+use Rattle.std.specs.List.{AllByRecursion}
 use Rattle.canonical.specs.Kinds.{Value}
 use Rattle.canonical.specs.Meanings.{an_output, Meaning, canonical}
 use Rattle.canonical.specs.Order.{Under, Member, Rising}
@@ -25,7 +25,7 @@ pub record Put (p : Bytes) (xs ys : List Bytes) : Type 0 where
   pub kept : (q : Bytes) → Member q xs → Member q ys
   pub only : (q : Bytes) → Member q ys → (q ≡ p) ⊎ Member q xs
 
-above : (p x : Bytes) (xs : List Bytes) → Under p x → All (λ y. Under x y) xs → All (λ y. Under p y) xs
+above : (p x : Bytes) (xs : List Bytes) → Under p x → AllByRecursion (λ y. Under x y) xs → AllByRecursion (λ y. Under p y) xs
 above p x xs u a = all_from_member (λ y. Under p y) xs (λ y m. under_trans p x y u (member_all (λ z. Under x z) xs y a m))
 
 put : (p : Bytes) (xs : List Bytes) → Rising (λ q. q) xs → (ys : List Bytes) × Put p xs ys

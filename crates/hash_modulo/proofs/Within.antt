@@ -1,6 +1,6 @@
 -- A file of an image that reads is within the limits that keep its digested strings short.
 use Rattle.std.proofs.Common.{◌≤◌, ◌⊎◌, length, inl, inr, arith}
-use Rattle.std.specs.List.{AllByRecursion as All}
+use Rattle.std.specs.List.{AllByRecursion}
 use Rattle.canonical.specs.Kinds.{Value, Lawful}
 use Rattle.canonical.specs.Meanings.{an_output, a_derivation, Meaning, canonical}
 use Rattle.canonical.proofs.Members.{member_all, all_from_member}
@@ -12,7 +12,7 @@ use Rattle.hash_modulo.specs.Hashes.{Fixed}
 use Rattle.hash_modulo.specs.Laws.{WithinLimits}
 use Rattle.hash_modulo.specs.Strings.{Blank}
 
-columns : (m : Meaning) → FixedValue m.0 ⊎ All BlankOutput m.0 → Fixed m ⊎ All Blank m.0
+columns : (m : Meaning) → FixedValue m.0 ⊎ AllByRecursion BlankOutput m.0 → Fixed m ⊎ AllByRecursion Blank m.0
 columns m (inl f) = inl (record { only = f.only; whole = f.whole; named = f.given.0; given = f.given.1 })
 columns m (inr b) = inr b
 

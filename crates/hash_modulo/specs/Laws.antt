@@ -1,7 +1,7 @@
 -- What holds of the definition.
 -- Source: this project's own rule (docs/FORMATS.md, "Hashes modulo inputs").
 use Rattle.std.specs.Prelude.{◌≡◌, ℕ, ◌<◌, ◌≤◌, ◌⊎◌, List, length, Some}
-use Rattle.std.specs.List.{AllByRecursion as All}
+use Rattle.std.specs.List.{AllByRecursion}
 use Rattle.canonical.specs.Kinds.{Value}
 use Rattle.canonical.specs.Meanings.{an_output, Meaning}
 use Rattle.hash_modulo.specs.Hashes.{Digest, Hashed}
@@ -89,7 +89,7 @@ WithinLimits = (path text : Bytes) (m : Meaning) → length path ≤ 255 → len
 -- every digested string of a file within the limits is shorter than 1,048,576 bytes, so no digest sink refuses it
 abbrev pub StringsShort : Type 0
 StringsShort = (set : Files) (d : Digest) → Wide d → (p text : Bytes) (ss : List Bytes) → set p ≡ Some text → length p ≤ 255 → length text ≤ 262144
-    → Digested set d p ss → All (λ (s : Bytes). length s < 1048576) ss
+    → Digested set d p ss → AllByRecursion (λ (s : Bytes). length s < 1048576) ss
 
 -- a file that has a hash has one list of digested strings
 pub record DigestedStand : Type 0 where

@@ -2,7 +2,7 @@
 -- Source: this project's own rule (docs/FORMATS.md, "Digested strings"); the strings are those of E. Dolstra,
 -- The Purely Functional Software Deployment Model (2006), section 5.5, and the Nix manual, "Store Path".
 use Rattle.std.specs.Prelude.{◌≡◌, ℕ, zero, suc, ◌+◌, ◌<◌, ◌≤◌, cond, ◌⊎◌, List, [], ◌∷◌, ◌++◌, map, length, codes, slice_index_or}
-use Rattle.std.specs.List.{AllByRecursion as All}
+use Rattle.std.specs.List.{AllByRecursion}
 use Rattle.std.specs.Str.{bytes_eq}
 use Rattle.canonical.specs.Kinds.{Value}
 use Rattle.canonical.specs.Meanings.{an_output, Meaning, canonical}
@@ -71,5 +71,5 @@ pub record Limits (p : Bytes) (m : Meaning) : Type 0 where
   pub path : length p ≤ 255
   pub text : length (canonical m) ≤ 524288
   pub inputs : length m.1.0 ≤ 64
-  pub outputs : All (λ (o : Value an_output). length o.0 ≤ 211) m.0
-  pub columns : Fixed m ⊎ All Blank m.0
+  pub outputs : AllByRecursion (λ (o : Value an_output). length o.0 ≤ 211) m.0
+  pub columns : Fixed m ⊎ AllByRecursion Blank m.0

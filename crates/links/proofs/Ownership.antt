@@ -1,6 +1,6 @@
 -- What a file owns, by the bytes of the names of its outputs.
 use Rattle.std.proofs.Common.{◌≡◌, List, [], ◌∷◌, map, Some, sym, refl, ap, ◌∙◌, subst, inl, inr}
-use Rattle.std.specs.List.{AllByRecursion as All}
+use Rattle.std.specs.List.{AllByRecursion}
 use Rattle.aterm.specs.Files.{output, derivation}
 use Rattle.aterm.specs.Grammar.{Tree, string, raw, meaning}
 use Rattle.aterm.specs.declared.file.Derivation.{Derivation}
@@ -42,7 +42,7 @@ module _ (set : Files) (p text : Bytes) (there : set p ≡ Some text) where
   pub owned_unread : (f : FileFault) → IsFileFault p text f → (ns : List Bytes) → Owned set (p, ns)
   owned_unread f fault ns m means n i = absurd (not_both p text m f (read_here m means) fault)
 
-  module _ (d : Derivation) (a : Accepted p text d) (ns : List (Tree string)) (plain : All AsItStands ns) where
+  module _ (d : Derivation) (a : Accepted p text d) (ns : List (Tree string)) (plain : AllByRecursion AsItStands ns) where
     abbrev tree : Tree derivation
     tree = a.reading.tree
 
@@ -53,7 +53,7 @@ module _ (set : Files) (p text : Bytes) (there : set p ≡ Some text) where
     plain_name t i = (member_all PlainOutput tree.0 t a.plain.outputs i).name
 
     -- one that reads owns what is wanted exactly where it has outputs of these names
-    pub owned_from : All (λ n. OwnsOutput tree.0 (raw n)) ns → Owned set (p, map meaning ns)
+    pub owned_from : AllByRecursion (λ n. OwnsOutput tree.0 (raw n)) ns → Owned set (p, map meaning ns)
     owned_from all m f n i =
         let w = member_map meaning ns n i in
         let h = member_all (λ (k : Tree string). OwnsOutput tree.0 (raw k)) ns w.0 all w.1 in
@@ -62,7 +62,7 @@ module _ (set : Files) (p text : Bytes) (there : set p ≡ Some text) where
     some_meaning : (m : Meaning) × Reads p text m
     some_meaning = elim (every_file p text) [ inl z ↦ z | inr z ↦ absurd (a.clear z.0 z.1) ]
 
-    pub owned_to : Owned set (p, map meaning ns) → All (λ n. OwnsOutput tree.0 (raw n)) ns
+    pub owned_to : Owned set (p, map meaning ns) → AllByRecursion (λ n. OwnsOutput tree.0 (raw n)) ns
     owned_to owned = all_from_member (λ (k : Tree string). OwnsOutput tree.0 (raw k)) ns has
       where
         has : (n : Tree string) → Member n ns → OwnsOutput tree.0 (raw n)

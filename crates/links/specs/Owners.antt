@@ -1,7 +1,7 @@
 -- Whether a file owns the outputs that an input row of another file wants of it, by the bytes of their names.
 -- Source: this project's own rule (docs/CALLS.md, "Verdict").
 use Rattle.std.specs.Prelude.{◌≡◌, ℕ, Bool, List, map, Decides}
-use Rattle.std.specs.List.{AllByRecursion as All}
+use Rattle.std.specs.List.{AllByRecursion}
 use Rattle.aterm.specs.Files.{output, in_output, span}
 use Rattle.aterm.specs.Grammar.{Tree, string, raw, meaning}
 use Rattle.aterm.specs.Reads.{Each}
@@ -36,5 +36,5 @@ OutputsAre text vs os = (from : ℕ) × Each output (in_output text) from vs os
 
 -- r says whether the file of this number among the first n, if it is there and reads, owns the outputs of these names
 abbrev pub OwnedBy : Bytes → ℕ → ℕ → Bytes → List (Placed Span) → Bool → Type 0
-OwnedBy img n number text vs r = (ns : List (Tree string)) → NamesAre text vs ns → All AsItStands ns
+OwnedBy img n number text vs r = (ns : List (Tree string)) → NamesAre text vs ns → AllByRecursion AsItStands ns
     → (p : Bytes) → Found img n p number → Decides r (Owned (set_of img n) (p, map meaning ns))

@@ -1,6 +1,6 @@
 // Whether a file owns the outputs that an input row of another wants of it.
 ghost use Rattle.std.specs.Prelude.{List, Decides};
-ghost use Rattle.std.specs.List.{AllByRecursion as All};
+ghost use Rattle.std.specs.List.{AllByRecursion};
 ghost use Rattle.aterm.specs.Files.{output as output_shape};
 ghost use Rattle.aterm.specs.Grammar.{Tree, string, raw};
 ghost use Rattle.image.specs.Files.{bytes_of, files_of};
@@ -31,7 +31,7 @@ fn has_outputs(
     names: &[Placed<Span>],
 ) -> bool
     requires { (HeldOutputs owner.now outputs.now) × (HeldNames text.now names.now) }
-    ensures { (os : List (Tree output_shape)) (ns : List (Tree string)) → OutputsAre owner.now outputs.now os → NamesAre text.now names.now ns → Decides result (All (λ n. OwnsOutput os (raw n)) ns) }
+    ensures { (os : List (Tree output_shape)) (ns : List (Tree string)) → OutputsAre owner.now outputs.now os → NamesAre text.now names.now ns → Decides result (AllByRecursion (λ n. OwnsOutput os (raw n)) ns) }
 {
     for name in names {
         if !has_output(owner, outputs, cut(text, name.value)) {

@@ -1,6 +1,6 @@
 // The links of the input rows of a file.
 ghost use Rattle.std.specs.Prelude.{◌≡◌, ℕ, ◌<◌, ◌≤◌, false as No, List, length, slice_index_or};
-ghost use Rattle.std.specs.List.{AllByRecursion as All};
+ghost use Rattle.std.specs.List.{AllByRecursion};
 ghost use Rattle.aterm.specs.Files.{input as input_shape, in_input};
 ghost use Rattle.aterm.specs.Grammar.{Tree};
 ghost use Rattle.aterm.specs.Reads.{Each};
@@ -50,7 +50,7 @@ fn link_row(image: &Image<'_>, text: &[u8], row: &Input) -> Link
 fn link_rows(image: &Image<'_>, text: &[u8], inputs: &[Placed<Input>]) -> [Link; 64]
     requires { (Held input_shape (in_input text.now) inputs.now) × (length inputs.now ≤ 64) }
     ensures wide { length result ≡ 64 }
-    ensures right { (from : ℕ) (xs : List (Tree input_shape)) → Each input_shape (in_input text.now) from inputs.now xs → All PlainInput xs → (i : ℕ) → i < length inputs.now → LinkRight (bytes_of image.now) (files_of image.now) (slice_index_or xs i no_input) (slice_index_or result i no_link) }
+    ensures right { (from : ℕ) (xs : List (Tree input_shape)) → Each input_shape (in_input text.now) from inputs.now xs → AllByRecursion PlainInput xs → (i : ℕ) → i < length inputs.now → LinkRight (bytes_of image.now) (files_of image.now) (slice_index_or xs i no_input) (slice_index_or result i no_link) }
 {
     let mut rows = [NO_LINK; 64];
     for (i, row) in inputs.iter().enumerate() {

@@ -1,6 +1,6 @@
 -- Whether a file is fixed, by the algorithm of its first output; and the strings of a fixed file are short.
 use Rattle.std.proofs.Common.{◌≡◌, ℕ, zero, suc, ◌<◌, Bool, true, false, not, ◌⊎◌, List, [], ◌∷◌, map, length, get_or, take, codes, Decides, sym, refl, ap, ◌∙◌, subst, inl, inr, arith}
-use Rattle.std.specs.List.{AllByRecursion as All}
+use Rattle.std.specs.List.{AllByRecursion}
 use Rattle.canonical.specs.Kinds.{Value}
 use Rattle.canonical.specs.Meanings.{an_output, Meaning}
 use Rattle.derivation.specs.Questions.{Kind, md5, sha1, sha256, sha512, spelt, Given}
@@ -39,12 +39,12 @@ module _ {X : Type 0} (F : X → Value an_output) (m : Meaning) where
       let same : x.only ≡ F v = cc in
       given_some x.only.1.1.0 x.only.1.1.1 x.given (ap (λ (o : Value an_output). o.1.1.0) same ∙ e)
 
-  first_blank : (xs : List X) (d : X) → m.0 ≡ map F xs → 0 < length xs → All Blank m.0 → (F (get_or xs 0 d)).1.1.0 ≡ []
+  first_blank : (xs : List X) (d : X) → m.0 ≡ map F xs → 0 < length xs → AllByRecursion Blank m.0 → (F (get_or xs 0 d)).1.1.0 ≡ []
   first_blank [] d rows some a = absurd (omega arith)
-  first_blank (v ∷ xs) d rows some a = let b : All Blank (map F (v ∷ xs)) = subst (λ (os : List (Value an_output)). All Blank os) rows a in b.0.0
+  first_blank (v ∷ xs) d rows some a = let b : AllByRecursion Blank (map F (v ∷ xs)) = subst (λ (os : List (Value an_output)). AllByRecursion Blank os) rows a in b.0.0
 
   -- b tells whether the first output's algorithm is empty
-  pub first_tells : (b : Bool) (xs : List X) (d : X) → m.0 ≡ map F xs → 0 < length xs → Fixed m ⊎ All Blank m.0
+  pub first_tells : (b : Bool) (xs : List X) (d : X) → m.0 ≡ map F xs → 0 < length xs → Fixed m ⊎ AllByRecursion Blank m.0
       → Decides b ((F (get_or xs 0 d)).1.1.0 ≡ []) → Decides (not b) (Fixed m)
   first_tells true xs d rows some columns e = (λ z. absurd (clash (cc)), λ x. absurd (first_given xs d rows x (e.0 refl)))
   first_tells false xs d rows some columns e = (

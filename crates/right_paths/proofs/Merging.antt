@@ -1,6 +1,6 @@
 -- A merge of rising paths: one step of it, and that it is their rising union.
 use Rattle.std.proofs.Common.{◌≡◌, ℕ, ◌+◌, ◌<◌, ◌≤◌, Bool, true, false, ◌⊎◌, List, [], ◌∷◌, map, length, get_or, drop, Some, None, sym, refl, ap, ◌∙◌, subst, inl, inr, ⊎_elim, arith}
-use Rattle.std.specs.List.{AllByRecursion as All}
+use Rattle.std.specs.List.{AllByRecursion}
 use Rattle.std.proofs.ByRecursion.{All-map, All-weaker}
 use Rattle.std.proofs.lemmas.List.{drop_more, drop_all}
 use Rattle.std.proofs.lemmas.Bool.{cases_Bool}
@@ -132,17 +132,17 @@ module _ {xs ys zs : List Bytes} (u : Union xs ys zs) where
   }
 
   -- what stands before both stands before their union
-  above : (x : Bytes) → All (Under x) xs → All (Under x) ys → All (Under x) zs
+  above : (x : Bytes) → AllByRecursion (Under x) xs → AllByRecursion (Under x) ys → AllByRecursion (Under x) zs
   above x h k = all_from_member (Under x) zs (λ p m. ⊎_elim (member_all (Under x) xs p h) (member_all (Under x) ys p k) (u.there p m))
 
-further : (x y : Bytes) (ys : List Bytes) → Under x y → All (Under y) ys → All (Under x) ys
+further : (x y : Bytes) (ys : List Bytes) → Under x y → AllByRecursion (Under y) ys → AllByRecursion (Under x) ys
 further x y ys u = All-weaker (Under y) (Under x) (λ z v. under_trans x y z u v) ys
 
 record Merges (xs ys zs : List Bytes) : Type 0 where
   rises : Rising (λ p. p) zs
   union : Union xs ys zs
 
-module _ (x : Bytes) (xs : List Bytes) (rest : List Bytes → List Bytes) (h : All (Under x) xs) (on : (ys : List Bytes) → Rising (λ p. p) ys → Merges xs ys (rest ys)) where
+module _ (x : Bytes) (xs : List Bytes) (rest : List Bytes → List Bytes) (h : AllByRecursion (Under x) xs) (on : (ys : List Bytes) → Rising (λ p. p) ys → Merges xs ys (rest ys)) where
   among_merges : (ys : List Bytes) → Rising (λ p. p) ys → Merges (x ∷ xs) ys (among x rest ys)
   among_merges [] r = let m = on [] tt in record { rises = (above m.union x h tt, m.rises); union = union_left m.union x }
   among_merges (y ∷ ys) r = elim (trichotomy x y) [
@@ -153,7 +153,7 @@ module _ (x : Bytes) (xs : List Bytes) (rest : List Bytes → List Bytes) (h : A
     | inr (inl e) ↦
         let m = on ys r.1 in
         subst (Merges (x ∷ xs) (y ∷ ys)) (sym (among_same x rest y ys e))
-        (record { rises = (above m.union x h (subst (λ (z : Bytes). All (Under z) ys) (sym e) r.0), m.rises); union = union_both m.union x y e })
+        (record { rises = (above m.union x h (subst (λ (z : Bytes). AllByRecursion (Under z) ys) (sym e) r.0), m.rises); union = union_both m.union x y e })
     | inr (inr u) ↦
         let m = among_merges ys r.1 in
         subst (Merges (x ∷ xs) (y ∷ ys)) (sym (among_more x rest y ys u))

@@ -1,6 +1,6 @@
 -- The paths of the outputs of a file that is not fixed, one after the other.
 use Rattle.std.proofs.Common.{◌≡◌, ℕ, ◌+◌, ◌*◌, ◌<◌, ◌≤◌, ◌≢◌, List, [], ◌∷◌, ◌++◌, map, length, get_or, take, set, codes, sym, refl, ap, ◌∙◌, subst, arith, length-set, below_more}
-use Rattle.std.specs.List.{AllByRecursion as All}
+use Rattle.std.specs.List.{AllByRecursion}
 use Rattle.std.proofs.ByRecursion.{All-get_or}
 use Rattle.std.proofs.lemmas.List.{map_more, get_or-map, length-map, take_all, get_or-set_same, get_or-set_other}
 use Rattle.canonical.specs.Kinds.{Value}
@@ -21,7 +21,7 @@ use Rattle.right_paths.proofs.Pourings.{pours_then}
 abbrev pub by_hash : Bytes → Bytes → Value an_output → Bytes
 by_hash path h o = path_string (codes "output:" ++ o.0) (hex h) (output_name path o.0)
 
-pub short_at : {X : Type 0} (F : X → Value an_output) (xs : List X) (i : ℕ) (d : X) (path h : Bytes) → i < length xs → All (λ (o : Value an_output). length (by_hash path h o) < 1048576) (map F xs)
+pub short_at : {X : Type 0} (F : X → Value an_output) (xs : List X) (i : ℕ) (d : X) (path h : Bytes) → i < length xs → AllByRecursion (λ (o : Value an_output). length (by_hash path h o) < 1048576) (map F xs)
     → length (by_hash path h (F (get_or xs i d))) < 1048576
 short_at F xs i d path h l a =
     let P : Value an_output → Type 0 = λ o. length (by_hash path h o) < 1048576 in

@@ -1,7 +1,7 @@
 // What is digested for one file, in order: for its own path, its hash, its masked hash unless it is fixed, and its outputs' paths.
 // The derivation has its rows sorted. These functions serve the crates above, which show what they require.
 ghost use Rattle.std.specs.Prelude.{◌≡◌, ◌<◌, ◌≤◌, ◌⊎◌, List, ◌++◌, length, codes, Decides};
-ghost use Rattle.std.specs.List.{AllByRecursion as All};
+ghost use Rattle.std.specs.List.{AllByRecursion};
 ghost use Rattle.canonical.specs.Files.{values, output_value, derivation_value};
 ghost use Rattle.canonical.specs.Kinds.{Lawful};
 ghost use Rattle.canonical.specs.Meanings.{a_derivation};
@@ -70,7 +70,7 @@ pub fn own_path<'a, S: DigestSink>(
 
 // Whether the file is fixed: of a file that reads, an output with an algorithm is the only one.
 pub fn is_fixed(text: &[u8], file: &Derivation) -> bool
-    requires { Fixed (derivation_value text.now file.now) ⊎ All Blank (derivation_value text.now file.now).0 }
+    requires { Fixed (derivation_value text.now file.now) ⊎ AllByRecursion Blank (derivation_value text.now file.now).0 }
     ensures { Decides result (Fixed (derivation_value text.now file.now)) }
 {
     match file.outputs.as_slice() {
@@ -140,7 +140,7 @@ pub fn output_paths<'a, S: DigestSink>(
     sink: &mut S,
 ) -> OutputDigits
     requires few { length outputs.now ≤ 16 }
-    requires short { All (λ o. length (path_string (codes "output:" ++ o.0) (hex masked) (output_name path.now o.0)) < 1048576) (values (output_value text.now) outputs.now) }
+    requires short { AllByRecursion (λ o. length (path_string (codes "output:" ++ o.0) (hex masked) (output_name path.now o.0)) < 1048576) (values (output_value text.now) outputs.now) }
     ensures { (t : Bytes) → masked ≡ digest S.Sink.step S.DigestSink.start S.DigestSink.answered t → OutputsWorked S.Sink.step S.DigestSink.start S.DigestSink.capacity S.DigestSink.answered path.now t (values (output_value text.now) outputs.now) (S.Sink.held sink.old).meaning result.digits result.count (S.Sink.held sink.new).meaning }
 {
     let mut digits = [Digits { bytes: [0; 32] }; 16];

@@ -1,6 +1,6 @@
 -- A table of examples holds where one test, which antt computes, passes over the whole of it.
 use Rattle.std.proofs.Common.{◌≡◌, ℕ, Bool, true, false, T, eqb, List, [], ◌∷◌, refl, ap, ◌∙◌, eqb→eq}
-use Rattle.std.specs.List.{AllByRecursion as All}
+use Rattle.std.specs.List.{AllByRecursion}
 use Rattle.samples.specs.Samples.{Sample}
 
 abbrev both : Bool → Bool → Bool
@@ -32,7 +32,7 @@ abbrev pub every : List Sample → Bool
 every [] = true
 every (s ∷ rows) = both (same s.found s.wanted) (every rows)
 
-pub table_holds : (rows : List Sample) → T (every rows) → All (λ s. s.found ≡ s.wanted) rows
+pub table_holds : (rows : List Sample) → T (every rows) → AllByRecursion (λ s. s.found ≡ s.wanted) rows
 table_holds [] t = tt
 table_holds (s ∷ rows) t =
     (same_is s.found s.wanted (both_left (same s.found s.wanted) (every rows) t), table_holds rows (both_right (same s.found s.wanted) (every rows) t))

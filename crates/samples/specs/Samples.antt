@@ -1,7 +1,7 @@
 -- Worked examples of the definitions: what is found by them, and what is wanted, as one table.
 -- Source: the rules of base 32 and of the fold as `store_path` states them, worked by hand.
 use Rattle.std.specs.Prelude.{◌≡◌, ℕ, List, [], ◌∷◌, ◌++◌, replicate, codes}
-use Rattle.std.specs.List.{AllByRecursion as All}
+use Rattle.std.specs.List.{AllByRecursion}
 use Rattle.store_path.specs.Base32.{base32, fold}
 
 -- one example
@@ -23,4 +23,4 @@ samples =
 
 -- each is as it is wanted
 abbrev pub Samples : Type 0
-Samples = All (λ s. s.found ≡ s.wanted) samples
+Samples = AllByRecursion (λ s. s.found ≡ s.wanted) samples

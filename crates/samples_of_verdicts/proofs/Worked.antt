@@ -1,6 +1,6 @@
 -- The string and the two files of the table.
 use Rattle.std.proofs.Common.{◌≡◌, ℕ, suc, Bool, true, false, T, eqb, List, [], ◌∷◌, codes, sym, refl, subst, inl, inr, arith, lit≤, eqb→eq}
-use Rattle.std.specs.List.{ContainsAt as Has, AllByRecursion as All}
+use Rattle.std.specs.List.{ContainsAt as Has, AllByRecursion}
 use Rattle.aterm.specs.Files.{output, variable, derivation, whole}
 use Rattle.aterm.specs.Grammar.{Char, plain, escaped, ordinary, Tree, Within, signs}
 use Rattle.canonical.specs.Kinds as kinds
@@ -65,7 +65,7 @@ has_byte (b ∷ table) c t = way (eqb b c) refl t (has_byte table c)
     way true e u next = (0, omega arith, λ d. eqb→eq b c (subst T (sym e) tt))
     way false e u next = let h = next u in (suc h.0, omega (arith, h.1), h.2)
 
-has_all : (table s : List ℕ) → T (all_in table s) → All (Has table) s
+has_all : (table s : List ℕ) → T (all_in table s) → AllByRecursion (Has table) s
 has_all table [] t = tt
 has_all table (c ∷ cs) t = (has_byte table c (both_left (in_table table c) (all_in table cs) t), has_all table cs (both_right (in_table table c) (all_in table cs) t))
 

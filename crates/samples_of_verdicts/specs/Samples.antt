@@ -1,7 +1,7 @@
 -- Worked examples of the definitions as one table: what is found by them and what is wanted, a string, and files with their verdicts.
 -- Source: the rules of base 32, of the fold, of strings and of verdicts as `store_path`, `canonical` and `verdict` state them, worked by hand.
 use Rattle.std.specs.Prelude.{◌≡◌, ◌-◌, cond, List, [], ◌∷◌, ◌++◌, length, replicate, Some, None, codes}
-use Rattle.std.specs.List.{AllByRecursion as All}
+use Rattle.std.specs.List.{AllByRecursion}
 use Rattle.std.specs.Str.{bytes_eq}
 use Rattle.aterm.specs.Grammar.{Char, raw, meaning}
 use Rattle.canonical.specs.Decode.{said}
@@ -66,4 +66,4 @@ samples =
 
 -- each is as it is wanted
 abbrev pub Samples : Type 0
-Samples = All Holds samples
+Samples = AllByRecursion Holds samples

@@ -5,7 +5,7 @@ use Rattle.std.proofs.lemmas.List.Prefix.{front_rest}
 use Rattle.std.proofs.lemmas.List.{take_at}
 use Rattle.std.proofs.lemmas.Bool.{cases_eq, cases_lt, cases_Bool}
 use Rattle.std.proofs.lemmas.Bool.Decides.{not_from_Decides}
-use Rattle.std.specs.List.{ContainsAt as Has, AllByRecursion as All}
+use Rattle.std.specs.List.{ContainsAt as Has, AllByRecursion}
 use Rattle.std.specs.Str.{bytes_eq}
 use Rattle.store_path.specs.Names.{Name, Based, StorePath, Drv, name_bytes, digits_32}
 use Rattle.store_path.proofs.Paths.{joined_from, based_long, based_hyphen, based_digits, based_name, store_rest}
@@ -50,7 +50,7 @@ has (y ∷ ys) x =
     nowhere y ys x n m zero h at = n (at 0)
     nowhere y ys x n m (suc k) h at = m (k, omega arith, at)
 
-pub all : {P : ℕ → Type 0} → ((x : ℕ) → Known (P x)) → (xs : List ℕ) → Known (All P xs)
+pub all : {P : ℕ → Type 0} → ((x : ℕ) → Known (P x)) → (xs : List ℕ) → Known (AllByRecursion P xs)
 all known [] = inl tt
 all known (x ∷ xs) = both (known x) (all known xs)
 

@@ -1,13 +1,13 @@
 -- A store path by its bytes.
 use Rattle.std.proofs.Common.{◌≡◌, ℕ, ◌<◌, ◌≤◌, Bool, List, [], ◌∷◌, ◌++◌, length, get_or, take, drop, is_some, Some, None, codes, Decides, Option, sym, refl, ap, ◌∙◌, subst, arith, length-append, take-append-drop, length-take-le, drop-cons, get_or-take, MatchOption}
-use Rattle.std.specs.List.{ContainsAt as Has, AllByRecursion as All}
+use Rattle.std.specs.List.{ContainsAt as Has, AllByRecursion}
 use Rattle.std.proofs.lemmas.Bool.{false≢true}
 use Rattle.std.proofs.lemmas.Slice.Eq.{text_from_reads}
 use Rattle.std.proofs.lemmas.List.{get_or_at}
 use Rattle.std.proofs.lemmas.List.Prefix.{front_rest}
 use Rattle.store_path.specs.Names.{Name, Based, Joined, StorePath, Apart, digits_32}
 
-pub joined_from : (s : List ℕ) → 33 ≤ length s → get_or s 32 0 ≡ 45 → All (Has digits_32) (take 32 s) → Name (drop 33 s) → Joined s (take 32 s) (drop 33 s)
+pub joined_from : (s : List ℕ) → 33 ≤ length s → get_or s 32 0 ≡ 45 → AllByRecursion (Has digits_32) (take 32 s) → Name (drop 33 s) → Joined s (take 32 s) (drop 33 s)
 joined_from s h e a n = record {
   whole = sym (take-append-drop 32 s) ∙ ap (λ l. take 32 s ++ l) (drop-cons s 32 0 (omega arith) ∙ ap (λ c. c ∷ drop 33 s) e);
   long = length-take-le 32 s (omega arith);
@@ -30,8 +30,8 @@ module _ (s : List ℕ) (b : Based s) where
   pub based_hyphen : get_or s 32 0 ≡ 45
   based_hyphen = ap (λ l. get_or l 32 0) b.whole ∙ get_or_at b.digits 45 b.name 0 32 b.long
 
-  pub based_digits : All (Has digits_32) (take 32 s)
-  based_digits = subst (All (Has digits_32)) (sym (ap (take 32) b.whole ∙ take_front b.digits (45 ∷ b.name) 32 b.long)) b.each
+  pub based_digits : AllByRecursion (Has digits_32) (take 32 s)
+  based_digits = subst (AllByRecursion (Has digits_32)) (sym (ap (take 32) b.whole ∙ take_front b.digits (45 ∷ b.name) 32 b.long)) b.each
 
   pub based_name : Name (drop 33 s)
   based_name = subst Name (sym tail) b.named

@@ -1,7 +1,7 @@
 -- What a name, a store path and a derivation's path are, by their bytes.
 -- Source: the Nix manual, "Store Path", and E. Dolstra, The Purely Functional Software Deployment Model (2006), section 5.1.
 use Rattle.std.specs.Prelude.{◌≡◌, ℕ, ◌≤◌, List, ◌∷◌, ◌++◌, length, codes, slice_index_or}
-use Rattle.std.specs.List.{ContainsAt as Has, AllByRecursion as All}
+use Rattle.std.specs.List.{ContainsAt as Has, AllByRecursion}
 
 -- the bytes of a name
 abbrev pub name_bytes : List ℕ
@@ -15,7 +15,7 @@ pub record Name (s : List ℕ) : Type 0 where
   pub some : 1 ≤ length s
   pub most : length s ≤ 211
   pub first : slice_index_or s 0 0 ≡ 46 → ⊥
-  pub bytes : All (Has name_bytes) s
+  pub bytes : AllByRecursion (Has name_bytes) s
 
 -- 32 digits, a hyphen and a name
 pub record Based (s : List ℕ) : Type 0 where
@@ -23,7 +23,7 @@ pub record Based (s : List ℕ) : Type 0 where
   pub name : List ℕ
   pub whole : s ≡ digits ++ 45 ∷ name
   pub long : length digits ≡ 32
-  pub each : All (Has digits_32) digits
+  pub each : AllByRecursion (Has digits_32) digits
   pub named : Name name
 
 pub record StorePath (s : List ℕ) : Type 0 where
@@ -35,14 +35,14 @@ pub record StorePath (s : List ℕ) : Type 0 where
 pub record Joined (s digits name : List ℕ) : Type 0 where
   pub whole : s ≡ digits ++ 45 ∷ name
   pub long : length digits ≡ 32
-  pub each : All (Has digits_32) digits
+  pub each : AllByRecursion (Has digits_32) digits
   pub named : Name name
 
 -- s is a store path with these digits and this name
 pub record Apart (s digits name : List ℕ) : Type 0 where
   pub whole : s ≡ codes "/nix/store/" ++ (digits ++ 45 ∷ name)
   pub long : length digits ≡ 32
-  pub each : All (Has digits_32) digits
+  pub each : AllByRecursion (Has digits_32) digits
   pub named : Name name
 
 -- ends in `.drv`

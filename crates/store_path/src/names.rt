@@ -1,6 +1,6 @@
 // Names and store paths.
 ghost use Rattle.std.specs.Prelude.{Decides, MatchOption};
-ghost use Rattle.std.specs.List.{ContainsAt as Has, AllByRecursion as All};
+ghost use Rattle.std.specs.List.{ContainsAt as Has, AllByRecursion};
 ghost use Rattle.store_path.specs.Names.{Name, Based, Joined, StorePath, Apart, Drv};
 
 const NAME_BYTES: &[u8] = b"0123456789abcdefghijklmnopqrstuvwxyzABCDEFGHIJKLMNOPQRSTUVWXYZ+-._?=";
@@ -16,7 +16,7 @@ pub struct Parts<'a> {
 
 // Whether each byte of `s` is one of `alphabet`.
 pub fn all_in(s: &[u8], alphabet: &[u8]) -> bool
-    ensures { Decides result (All (Has alphabet.now) s.now) }
+    ensures { Decides result (AllByRecursion (Has alphabet.now) s.now) }
 {
     for c in s {
         if !alphabet.contains(c) {

@@ -1,6 +1,6 @@
 -- Rows of a tree, each with where it stands: the row of a first no, what holds of each row, and the row that has a key.
 use Rattle.std.proofs.Common.{◌≡◌, ℕ, ◌⊎◌, List, [], ◌∷◌, ◌++◌, None, sym, refl, ap, ◌∙◌, subst, inl, inr}
-use Rattle.std.specs.List.{AllByRecursion as All}
+use Rattle.std.specs.List.{AllByRecursion}
 use Rattle.std.proofs.ByRecursion.{All-weaker}
 use Rattle.aterm.specs.Grammar.{Shape, Tree, string, meaning}
 use Rattle.aterm.specs.Reads.{past}
@@ -14,7 +14,7 @@ use Rattle.store_path.proofs.Deciding.{same_text}
 
 module _ {E : Type 0} (Yes : E → Type 0) where
   once : (a b : List (Spot × E)) (v w : Spot) (d e : E) (p q : List (Spot × E)) → a ++ (v, d) ∷ p ≡ b ++ (w, e) ∷ q
-      → All (λ r. Yes r.1) a → (Yes d → ⊥) → All (λ r. Yes r.1) b → (Yes e → ⊥) → ◌≡◌ {A = Spot × E} (v, d) (w, e)
+      → AllByRecursion (λ r. Yes r.1) a → (Yes d → ⊥) → AllByRecursion (λ r. Yes r.1) b → (Yes e → ⊥) → ◌≡◌ {A = Spot × E} (v, d) (w, e)
   once [] [] v w d e p q g ca rd cb re = cc
   once [] (y ∷ b) v w d e p q g ca rd cb re = let h : ◌≡◌ {A = Spot × E} (v, d) y = cc in absurd (rd (subst (λ (z : Spot × E). Yes z.1) (sym h) cb.0))
   once (x ∷ a) [] v w d e p q g ca rd cb re = let h : ◌≡◌ {A = Spot × E} x (w, e) = cc in absurd (re (subst (λ (z : Spot × E). Yes z.1) h ca.0))
@@ -88,7 +88,7 @@ module _ (s : Shape) (number : ℕ) where
 
   -- where keys differ, one row has a key
   module _ (key : Tree s → Tree string) where
-    behind : (at : ℕ) (ys : List (Tree s)) (x : Tree s) (xs : List (Tree s)) → All (λ y. meaning (key x) ≡ meaning (key y) → ⊥) xs
+    behind : (at : ℕ) (ys : List (Tree s)) (x : Tree s) (xs : List (Tree s)) → AllByRecursion (λ y. meaning (key x) ≡ meaning (key y) → ⊥) xs
         → (t : Tree s) → t ≡ x → (w : Spot) (e : List (Tree s) × Tree s) → Member (w, e) (rows_at s number at ys xs) → meaning (key t) ≡ meaning (key e.1) → ⊥
     behind at ys x xs a t q w e i k =
         member_all (λ y. meaning (key x) ≡ meaning (key y) → ⊥) xs e.1 a (row_there at ys xs w e i) (ap (λ (z : Tree s). meaning (key z)) (sym q) ∙ k)

@@ -2,7 +2,7 @@
 -- Source: this project's own rule (docs/CALLS.md, "Verdict"), over the hashes and right paths of E. Dolstra,
 -- The Purely Functional Software Deployment Model (2006), section 5.5.
 use Rattle.std.specs.Prelude.{◌≡◌, ℕ, List, map, Some, None, ◌≢◌}
-use Rattle.std.specs.List.{AllByRecursion as All}
+use Rattle.std.specs.List.{AllByRecursion}
 use Rattle.aterm.specs.Files.{output, input, variable, derivation}
 use Rattle.aterm.specs.Grammar.{Tree, meaning}
 use Rattle.canonical.specs.Differences.{DifferAt}

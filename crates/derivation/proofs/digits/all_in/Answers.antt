@@ -1,5 +1,5 @@
 use Rattle.std.proofs.Common.{eqb, get_or, refl, subst, take_all}
-use Rattle.std.specs.List.{ContainsAt as Has, AllByRecursion as All}
+use Rattle.std.specs.List.{ContainsAt as Has, AllByRecursion}
 use Rattle.std.proofs.lemmas.List.Elements.{contains_decides}
 use Rattle.std.proofs.ByRecursion.{All-more, All-get_or}
 use Rattle.std.proofs.lemmas.Bool.{false≢true}
@@ -21,4 +21,4 @@ loop-c-preserved c =
     All-more (Has c.args.alphabet.now) s i 0 c.loop-c-test.true c.loop-c.invariant (d.0 c.if-not-contains.false)
 
 pub returns : goal.returns
-returns c = (λ _. subst (All (Has c.args.alphabet.now)) (take_all c.loop-c.c-index c.args.s.now c.loop-c-test.false) c.loop-c.invariant, λ _. refl)
+returns c = (λ _. subst (AllByRecursion (Has c.args.alphabet.now)) (take_all c.loop-c.c-index c.args.s.now c.loop-c-test.false) c.loop-c.invariant, λ _. refl)

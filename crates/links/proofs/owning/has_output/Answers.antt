@@ -1,5 +1,5 @@
 use Rattle.std.proofs.Common.{◌≡◌, ◌<◌, [], length, get_or, sym, refl, ◌∙◌, subst, arith}
-use Rattle.std.specs.List.{AllByRecursion as All}
+use Rattle.std.specs.List.{AllByRecursion}
 use Rattle.std.proofs.ByRecursion.{All-more}
 use Rattle.std.proofs.lemmas.Slice.Eq.{slice_eq-Decides}
 use Rattle.std.proofs.lemmas.List.{take_all}
@@ -40,6 +40,6 @@ loop-output-preserved c = λ os o.
 
 pub returns : goal.returns
 returns c = λ os o.
-    let all : All (λ (t : Tree output). raw t.0 ≡ c.args.name.now → ⊥) os =
-    subst (All (λ (t : Tree output). raw t.0 ≡ c.args.name.now → ⊥)) (take_all c.loop-output.output-index os (omega (arith, each_length output (in_output c.args.text.now) o.0 c.args.outputs.now os o.1))) (c.loop-output.invariant os o) in
+    let all : AllByRecursion (λ (t : Tree output). raw t.0 ≡ c.args.name.now → ⊥) os =
+    subst (AllByRecursion (λ (t : Tree output). raw t.0 ≡ c.args.name.now → ⊥)) (take_all c.loop-output.output-index os (omega (arith, each_length output (in_output c.args.text.now) o.0 c.args.outputs.now os o.1))) (c.loop-output.invariant os o) in
     (λ e. absurd (false≢true e), λ z. absurd (member_all (λ (t : Tree output). raw t.0 ≡ c.args.name.now → ⊥) os z.0 all z.1 z.2))

@@ -1,5 +1,5 @@
 use Rattle.std.proofs.Common.{◌<◌, [], length, sym, refl, subst, arith}
-use Rattle.std.specs.List.{AllByRecursion as All}
+use Rattle.std.specs.List.{AllByRecursion}
 use Rattle.std.proofs.ByRecursion.{All-more, All-get_or}
 use Rattle.std.proofs.lemmas.List.{take_all}
 use Rattle.std.proofs.lemmas.Bool.{false≢true}
@@ -36,6 +36,6 @@ loop-name-preserved c = λ os ns o n.
 
 pub returns : goal.returns
 returns c = λ os ns o n.
-    let all : All (λ (k : Tree string). OwnsOutput os (raw k)) ns =
-    subst (All (λ (k : Tree string). OwnsOutput os (raw k))) (take_all c.loop-name.name-index ns (omega (arith, each_length string (λ p v. span c.args.text.now v p) n.0 c.args.names.now ns n.1))) (c.loop-name.invariant os ns o n) in
+    let all : AllByRecursion (λ (k : Tree string). OwnsOutput os (raw k)) ns =
+    subst (AllByRecursion (λ (k : Tree string). OwnsOutput os (raw k))) (take_all c.loop-name.name-index ns (omega (arith, each_length string (λ p v. span c.args.text.now v p) n.0 c.args.names.now ns n.1))) (c.loop-name.invariant os ns o n) in
     (λ _. all, λ _. refl)

@@ -1,6 +1,6 @@
 -- The texts of a file within the limits are short, and their digests and the paths are those of the definition.
 use Rattle.std.proofs.Common.{◌≡◌, ℕ, ◌<◌, List, length, take, sym, refl, ap, subst, arith}
-use Rattle.std.specs.List.{AllByRecursion as All}
+use Rattle.std.specs.List.{AllByRecursion}
 use Rattle.std.proofs.lemmas.List.{length-map, length-take}
 use Rattle.aterm.specs.declared.file.Input.{Input}
 use Rattle.aterm.specs.declared.file.Output.{Output}
@@ -55,7 +55,7 @@ output-paths-outputs-requires g c =
     record {
       few = omega (arith, ap length s, length-take v.len v.items, v.fits);
       short =
-          subst (λ (xs : List (Placed Output)). All P (values (output_value t) xs)) (sym s)
+          subst (λ (xs : List (Placed Output)). AllByRecursion P (values (output_value t) xs)) (sym s)
           (all_from_member P (values (output_value t) (take v.len v.items)) (λ o i. output_short c.requires.works.limits o i (hex h) (omega (arith, hex_length h, w))));
     }
 
