@@ -13,7 +13,7 @@ pub struct Counting<'a, S: Sink> {
 impl<'a, S: Sink> Sink for Counting<'a, S> {
     ghost step = { counting_step S.Sink.step };
 
-    ghost held = { λ s. counted (S.Sink.held s.below.now) s.below.name s.count };
+    ghost held = { λ s. counted (S.Sink.held s.below.now) s.below.ghost_name s.count };
 
     ghost wraps = { λ s. S.Sink.wraps s.below.now };
 

@@ -15,8 +15,8 @@ locate-outer-requires g c =
 pub returns-then-says : goal.returns-then-says
 returns-then-says g c = source_worked (c.if-says.ensures.0 refl) c.locate.ensures c.requires.source
 
-pub overflow-add-result : goal.overflow-add-result
-overflow-add-result g c =
+pub overflow_add-result : goal.overflow_add-result
+overflow_add-result g c =
     let h = c.pour-inner.result.hash in
     let w : length h ≡ 32 = omega arith in
     omega (arith, c.requires.output (hex h) (omega (arith, hex_length h, w)), c.requires.inner, c.pour-inner.ensures.count, c.locate-outer.ensures.pours.count)

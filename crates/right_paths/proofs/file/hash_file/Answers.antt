@@ -21,27 +21,27 @@ nowhere = record { start = 0; «end» = 0 }
 abbrev no_row : Placed Output
 no_row = record { place = 0; value = record { name = nowhere; path = nowhere; algorithm = nowhere; hash = nowhere } }
 
-pub hash-fixed-file-requires : goal.hash-fixed-file-requires
-hash-fixed-file-requires g c =
+pub hash_fixed_file-requires : goal.hash_fixed_file-requires
+hash_fixed_file-requires g c =
     let t = c.args.text.now in
     let v = c.args.file.now.outputs in
-    let x : Fixed (derivation_value t c.args.file.now) = c.if-is-fixed.ensures.0 refl in
+    let x : Fixed (derivation_value t c.args.file.now) = c.if-is_fixed.ensures.0 refl in
     let e = first_only (λ (p : Placed Output). output_value t p.value) v.len v.items x.only no_row x.whole in
     record {
       short = subst (λ (o : Value an_output). length (fixed_string o) < 1048576) (sym e) (fixed_short c.requires.limits x);
       paths = subst (FixedShort c.args.path.now) (sym e) (paths_short c.requires.limits x);
-      few = c.own-path-own.ensures.few;
+      few = c.own_path-own.ensures.few;
     }
 
-pub returns-then-is-fixed : goal.returns-then-is-fixed
-returns-then-is-fixed g c h aligned =
+pub returns-then-is_fixed : goal.returns-then-is_fixed
+returns-then-is_fixed g c h aligned =
     let t = c.args.text.now in
     let v = c.args.file.now.outputs in
-    let x : Fixed (derivation_value t c.args.file.now) = c.if-is-fixed.ensures.0 refl in
-    fixed_file c.own-path-own.ensures h x
-    (other_output (first_only (λ (p : Placed Output). output_value t p.value) v.len v.items x.only no_row x.whole) c.hash-fixed-file.ensures)
+    let x : Fixed (derivation_value t c.args.file.now) = c.if-is_fixed.ensures.0 refl in
+    fixed_file c.own_path-own.ensures h x
+    (other_output (first_only (λ (p : Placed Output). output_value t p.value) v.len v.items x.only no_row x.whole) c.hash_fixed_file.ensures)
 
 pub returns : goal.returns
 returns g c h aligned =
-    let z = c.hash-text-file.ensures h aligned in
-    text_file c.own-path-own.ensures h (says_not c.if-is-fixed.ensures refl) z.1 z.2
+    let z = c.hash_text_file.ensures h aligned in
+    text_file c.own_path-own.ensures h (says_not c.if-is_fixed.ensures refl) z.1 z.2

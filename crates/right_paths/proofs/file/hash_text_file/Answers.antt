@@ -30,8 +30,8 @@ of_rows : {f : Step} {start : List ℕ} {capacity : ℕ} {answer : List ℕ → 
 of_rows {f} {start} {capacity} {answer} {path} {text} {xs} {ys} {before} {after} {digits} {n} t e w =
     subst (λ (z : List (Placed Output)). OutputsWorked f start capacity answer path text (values (output_value t) z) before digits n after) e w
 
-pub hash-inputs-inputs-requires : goal.hash-inputs-inputs-requires
-hash-inputs-inputs-requires g c =
+pub hash_inputs-inputs-requires : goal.hash_inputs-inputs-requires
+hash_inputs-inputs-requires g c =
     let v = c.args.file.now.inputs in
     let t = c.args.text.now in
     let rows = take v.len v.items in
@@ -39,19 +39,19 @@ hash-inputs-inputs-requires g c =
     omega (arith, as_many w.given (values (input_value t) rows) c.args.hashes.now w.aligned, length-map rows (λ (x : Placed Input). input_value t x.value), length-take v.len v.items)
 
 pub pour-whole-requires : goal.pour-whole-requires
-pour-whole-requires g c = let w = c.requires.works in hash_short w (c.hash-inputs-inputs.ensures c.args.text.now w.given w.aligned)
+pour-whole-requires g c = let w = c.requires.works in hash_short w (c.hash_inputs-inputs.ensures c.args.text.now w.given w.aligned)
 
 pub pour-masked-requires : goal.pour-masked-requires
-pour-masked-requires g c = let w = c.requires.works in masked_short w (c.hash-inputs-inputs.ensures c.args.text.now w.given w.aligned)
+pour-masked-requires g c = let w = c.requires.works in masked_short w (c.hash_inputs-inputs.ensures c.args.text.now w.given w.aligned)
 
-pub output-paths-outputs-requires : goal.output-paths-outputs-requires
-output-paths-outputs-requires g c =
+pub output_paths-outputs-requires : goal.output_paths-outputs-requires
+output_paths-outputs-requires g c =
     let t = c.args.text.now in
     let v = c.args.file.now.outputs in
     let h = c.pour-masked.result.hash in
-    let w : length h ≡ 32 = omega (arith, c.pour-masked.type-inv) in
+    let w : length h ≡ 32 = omega (arith, c.pour-masked.type_inv) in
     let P : Value an_output → Type 0 = λ o. length (by_hash c.args.path.now h o) < 1048576 in
-    let s = c.as-slice.ensures in
+    let s = c.as_slice.ensures in
     record {
       few = omega (arith, ap length s, length-take v.len v.items, v.fits);
       short =
@@ -60,31 +60,31 @@ output-paths-outputs-requires g c =
     }
 
 -- each text is as long as what was counted for it
-pub overflow-add-result : goal.overflow-add-result
-overflow-add-result g c =
+pub overflow_add-result : goal.overflow_add-result
+overflow_add-result g c =
     let w = c.requires.works in
-    omega (arith, hash_short w (c.hash-inputs-inputs.ensures c.args.text.now w.given w.aligned), c.pour-whole.ensures.count, c.requires.few)
+    omega (arith, hash_short w (c.hash_inputs-inputs.ensures c.args.text.now w.given w.aligned), c.pour-whole.ensures.count, c.requires.few)
 
-pub overflow-add-result-2 : goal.overflow-add-result-2
-overflow-add-result-2 g c =
+pub overflow_add-result-2 : goal.overflow_add-result-2
+overflow_add-result-2 g c =
     let w = c.requires.works in
-    let r = c.hash-inputs-inputs.ensures c.args.text.now w.given w.aligned in
+    let r = c.hash_inputs-inputs.ensures c.args.text.now w.given w.aligned in
     omega (arith, hash_short w r, masked_short w r, c.pour-whole.ensures.count, c.pour-masked.ensures.count, c.requires.few)
 
-pub overflow-add-result-3 : goal.overflow-add-result-3
-overflow-add-result-3 g c =
+pub overflow_add-result-3 : goal.overflow_add-result-3
+overflow_add-result-3 g c =
     let w = c.requires.works in
-    let r = c.hash-inputs-inputs.ensures c.args.text.now w.given w.aligned in
+    let r = c.hash_inputs-inputs.ensures c.args.text.now w.given w.aligned in
     let t = c.args.text.now in
-    let v = c.hash-inputs-inputs.result in
+    let v = c.hash_inputs-inputs.result in
     let s = canonical (with_inputs (masked (derivation_value t c.args.file.now)) (values (hash_input_value t) (take v.len v.items))) in
-    omega (arith, hash_short w r, masked_short w r, c.pour-whole.ensures.count, c.pour-masked.ensures.count, (c.output-paths-outputs.ensures s c.pour-masked.ensures.hash).few, c.requires.few)
+    omega (arith, hash_short w r, masked_short w r, c.pour-whole.ensures.count, c.pour-masked.ensures.count, (c.output_paths-outputs.ensures s c.pour-masked.ensures.hash).few, c.requires.few)
 
 pub returns : goal.returns
 returns g c h aligned =
     let t = c.args.text.now in
-    let v = c.hash-inputs-inputs.result in
+    let v = c.hash_inputs-inputs.result in
     let m = derivation_value t c.args.file.now in
     let rows = values (hash_input_value t) (take v.len v.items) in
-    let o = c.output-paths-outputs.ensures (canonical (with_inputs (masked m) rows)) c.pour-masked.ensures.hash in
-    (rows, c.hash-inputs-inputs.ensures t h aligned, text_rest c.pour-whole.ensures c.pour-masked.ensures (of_rows t c.as-slice.ensures o) refl refl refl refl)
+    let o = c.output_paths-outputs.ensures (canonical (with_inputs (masked m) rows)) c.pour-masked.ensures.hash in
+    (rows, c.hash_inputs-inputs.ensures t h aligned, text_rest c.pour-whole.ensures c.pour-masked.ensures (of_rows t c.as_slice.ensures o) refl refl refl refl)

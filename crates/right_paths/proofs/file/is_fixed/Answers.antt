@@ -10,10 +10,10 @@ pub returns-in-empty : goal.returns-in-empty
 returns-in-empty c =
     let t = c.args.text.now in (
       λ e. (let z : ◌≡◌ {A = ℕ} 0 1 = cc in absurd (omega arith)),
-      λ x. absurd (fixed_none (λ (v : Placed Output). output_value t v.value) (derivation_value t c.args.file.now) c.as-slice.result.now (sym (ap (values (output_value t)) c.as-slice.ensures)) (omega (arith, ltb-true)) x),
+      λ x. absurd (fixed_none (λ (v : Placed Output). output_value t v.value) (derivation_value t c.args.file.now) c.as_slice.result.now (sym (ap (values (output_value t)) c.as_slice.ensures)) (omega (arith, ltb-true)) x),
     )
 
 pub returns-in-len1-up : goal.returns-in-len1-up
 returns-in-len1-up c =
     let t = c.args.text.now in
-    first_tells (λ (v : Placed Output). output_value t v.value) (derivation_value t c.args.file.now) c.is-blank.result c.as-slice.result.now _ (sym (ap (values (output_value t)) c.as-slice.ensures)) (omega (arith, ltb-false)) c.requires c.is-blank.ensures
+    first_tells (λ (v : Placed Output). output_value t v.value) (derivation_value t c.args.file.now) c.is_blank.result c.as_slice.result.now _ (sym (ap (values (output_value t)) c.as_slice.ensures)) (omega (arith, ltb-false)) c.requires c.is_blank.ensures

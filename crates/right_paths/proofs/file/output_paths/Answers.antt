@@ -19,26 +19,26 @@ no_row = record { place = 0; value = record { name = nowhere; path = nowhere; al
 pub loop-i-init : goal.loop-i-init
 loop-i-init g c = upto_none refl
 
-pub output-path-located-requires : goal.output-path-located-requires
-output-path-located-requires g c =
+pub output_path-located-requires : goal.output_path-located-requires
+output_path-located-requires g c =
     short_at (λ (v : Placed Output). output_value c.args.text.now v.value) c.args.outputs.now c.loop-i.i no_row c.args.path.now c.args.masked c.loop-i-test.true c.requires.short
 
-pub overflow-add-count : goal.overflow-add-count
-overflow-add-count g c =
+pub overflow_add-count : goal.overflow_add-count
+overflow_add-count g c =
     let s : length (by_hash c.args.path.now c.args.masked (output_value c.args.text.now (get_or c.args.outputs.now c.loop-i.i no_row).value)) < 1048576 =
     short_at (λ (v : Placed Output). output_value c.args.text.now v.value) c.args.outputs.now c.loop-i.i no_row c.args.path.now c.args.masked c.loop-i-test.true c.requires.short in
-    omega (arith, s, c.loop-i.invariant.few, c.output-path-located.ensures.pours.count, c.loop-i-test.true, c.requires.few)
+    omega (arith, s, c.loop-i.invariant.few, c.output_path-located.ensures.pours.count, c.loop-i-test.true, c.requires.few)
 
 pub loop-i-preserved : goal.loop-i-preserved
 loop-i-preserved g c =
     let F : Placed Output → _ = λ v. output_value c.args.text.now v.value in
     let xs = c.args.outputs.now in
     let i = c.loop-i.i in
-    upto_more c.output-path-located.result.digits (F (get_or xs i no_row)) c.loop-i.invariant
+    upto_more c.output_path-located.result.digits (F (get_or xs i no_row)) c.loop-i.invariant
     (omega (arith, length-map xs F, c.loop-i-test.true))
     (omega (arith, c.loop-i-test.true, c.requires.few))
     (sym (get_or-map F xs i no_row no_output c.loop-i-test.true))
-    c.output-path-located.ensures
+    c.output_path-located.ensures
     (short_at F xs i no_row c.args.path.now c.args.masked c.loop-i-test.true c.requires.short)
 
 pub returns : goal.returns

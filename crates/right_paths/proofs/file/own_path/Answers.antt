@@ -16,8 +16,8 @@ locate-own-requires g c =
     let w : length h ≡ 32 = omega arith in
     own_short c.requires.limits (references_right m c.requires.lawful.1.0.1.1 c.requires.lawful.1.1.0.1.1) (hex h) (omega (arith, hex_length h, w))
 
-pub overflow-add-result : goal.overflow-add-result
-overflow-add-result g c =
+pub overflow_add-result : goal.overflow_add-result
+overflow_add-result g c =
     let m = derivation_value c.args.text.now c.args.file.now in
     let h = c.pour-whole.result.hash in
     let w : length h ≡ 32 = omega arith in

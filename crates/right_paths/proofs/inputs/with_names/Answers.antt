@@ -9,8 +9,8 @@ use Rattle.right_paths.proofs.InputNames.{named_more}
 use Rattle.right_paths.proofs.Numbering.{number_at}
 use Rattle.right_paths.proofs.inputs.with_names.Goals as goal
 
-pub offset-bounds-inputs-x : goal.offset-bounds-inputs-x
-offset-bounds-inputs-x c =
+pub offset_bounds-inputs-x : goal.offset_bounds-inputs-x
+offset_bounds-inputs-x c =
     let h = c.in-Some.ensures in
     omega (arith, number_at (held c.args.table.now) c.args.inputs.now.len c.requires c.loop-i.i c.in-Some.x h.0 h.1, c.args.inputs.now.fits)
 

@@ -11,7 +11,7 @@ returns-in-Equal c =
 pub loop-output-preserved : goal.loop-output-preserved
 loop-output-preserved c =
     let t = c.args.text.now in
-    named_later (λ v. output_value t v.value) c.args.outputs.now c.loop-output.output-index _ (said t c.args.name.start c.args.name.«end») c.loop-output-test.true c.loop-output.invariant (not_equal c.compare.result c.compare.ensures c.in-default.not-Equal)
+    named_later (λ v. output_value t v.value) c.args.outputs.now c.loop-output.output-index _ (said t c.args.name.start c.args.name.«end») c.loop-output-test.true c.loop-output.invariant (not_equal c.compare.result c.compare.ensures c.in_default.not-Equal)
 
 pub returns : goal.returns
 returns c =

@@ -9,20 +9,20 @@ returns-then-says g c =
     let out = said c.args.text.now c.args.out.start c.args.out.«end» in
     as_text (c.stem.ensures ∙ name_out c.args.path.now out (c.if-says.ensures.0 refl)) c.write.ensures.writes
 
-pub returns-in-err-write : goal.returns-in-err-write
-returns-in-err-write g c =
+pub returns-in_err-write : goal.returns-in_err-write
+returns-in_err-write g c =
     let out = said c.args.text.now c.args.out.start c.args.out.«end» in
     as_text (ap (λ (v : List ℕ). v ++ (45 ∷ out)) c.stem-2.ensures ∙ name_other c.args.path.now out (says_not c.if-says.ensures refl))
-    (stop (45 ∷ out) c.in-err-write.ensures.writes c.from-residual.ensures.0)
+    (stop (45 ∷ out) c.in_err-write.ensures.writes c.from_residual.ensures.0)
 
-pub returns-in-err-write-2 : goal.returns-in-err-write-2
-returns-in-err-write-2 g c =
+pub returns-in_err-write-2 : goal.returns-in_err-write-2
+returns-in_err-write-2 g c =
     let out = said c.args.text.now c.args.out.start c.args.out.«end» in
     as_text (ap (λ (v : List ℕ). v ++ (45 ∷ out)) c.stem-2.ensures ∙ name_other c.args.path.now out (says_not c.if-says.ensures refl))
-    (then c.in-ok-write.ensures.writes (stop out c.in-err-write-2.ensures.writes c.from-residual-in-err-write-2.ensures.0))
+    (then c.in_ok-write.ensures.writes (stop out c.in_err-write-2.ensures.writes c.from_residual-in_err-write-2.ensures.0))
 
 pub returns : goal.returns
 returns g c =
     let out = said c.args.text.now c.args.out.start c.args.out.«end» in
     as_text (ap (λ (v : List ℕ). v ++ (45 ∷ out)) c.stem-2.ensures ∙ name_other c.args.path.now out (says_not c.if-says.ensures refl))
-    (then c.in-ok-write.ensures.writes (then c.in-ok-write-2.ensures.writes c.write-said.ensures))
+    (then c.in_ok-write.ensures.writes (then c.in_ok-write-2.ensures.writes c.write_said.ensures))

@@ -21,19 +21,19 @@ of_rows t v {inputs} {sources} p q =
     ap (λ (is : List (Placed Input)). listed (references_in t is sources)) p
     ∙ ap (λ (ss : List (Placed Span)). listed (references_in t (take v.inputs.len v.inputs.items) ss)) q
 
-pub returns-in-err-write-reference : goal.returns-in-err-write-reference
-returns-in-err-write-reference g c =
+pub returns-in_err-write_reference : goal.returns-in_err-write_reference
+returns-in_err-write_reference g c =
     let t = c.args.text.now in
-    let rest = listed (references_in t (drop c.in-Some.after c.as-slice-inputs.result.now) (drop c.in-Some.beyond c.as-slice-sources.result.now)) in
-    then c.in-ok-write.ensures.writes
-    (as_text (of_rows t c.args.file.now c.as-slice-inputs.ensures c.as-slice-sources.ensures)
-    (lead_stop c.loop-path.invariant rest (ap listed c.in-Some.ensures.0) c.in-err-write-reference.ensures c.from-residual-in-err-write-reference.ensures.0))
+    let rest = listed (references_in t (drop c.in-Some.after c.as_slice-inputs.result.now) (drop c.in-Some.beyond c.as_slice-sources.result.now)) in
+    then c.in_ok-write.ensures.writes
+    (as_text (of_rows t c.args.file.now c.as_slice-inputs.ensures c.as_slice-sources.ensures)
+    (lead_stop c.loop-path.invariant rest (ap listed c.in-Some.ensures.0) c.in_err-write_reference.ensures c.from_residual-in_err-write_reference.ensures.0))
 
 pub loop-path-preserved : goal.loop-path-preserved
-loop-path-preserved g c = lead_more c.loop-path.invariant (ap listed c.in-Some.ensures.0) c.in-ok-write-reference.ensures
+loop-path-preserved g c = lead_more c.loop-path.invariant (ap listed c.in-Some.ensures.0) c.in_ok-write_reference.ensures
 
 pub returns : goal.returns
 returns g c =
-    then c.in-ok-write.ensures.writes
-    (as_text (of_rows c.args.text.now c.args.file.now c.as-slice-inputs.ensures c.as-slice-sources.ensures)
-    (lead_end c.loop-path.invariant (ap listed c.in-default.ensures) (done _ (g.S.Sink.wraps c.loop-path.sink))))
+    then c.in_ok-write.ensures.writes
+    (as_text (of_rows c.args.text.now c.args.file.now c.as_slice-inputs.ensures c.as_slice-sources.ensures)
+    (lead_end c.loop-path.invariant (ap listed c.in_default.ensures) (done _ (g.S.Sink.wraps c.loop-path.sink))))

@@ -21,5 +21,5 @@ loop-b-preserved c =
 
 pub returns : goal.returns
 returns c =
-    told c.args.word.now c.loop-b.b-index _ _ c.is-none.result c.loop-b-test.false c.loop-b.invariant
-    (turn_none c.args.text.now c.loop-b.at c.args.span.«end» c.next-2.result c.is-none.result c.next-2.ensures c.is-none.ensures)
+    told c.args.word.now c.loop-b.b-index _ _ c.is_none.result c.loop-b-test.false c.loop-b.invariant
+    (turn_none c.args.text.now c.loop-b.at c.args.span.«end» c.next-2.result c.is_none.result c.next-2.ensures c.is_none.ensures)

@@ -15,31 +15,31 @@ rest t v = 44 ∷ canons (one (rising 16 text)) (hash_input_value t v).1
 pieces : (t : List ℕ) (v : HashInput) → 40 ∷ 34 ∷ (hex v.hash.bytes ++ (34 ∷ rest t v)) ≡ canon an_input (hash_input_value t v)
 pieces t v = ap (λ (w : List ℕ). 40 ∷ 34 ∷ w) (quoted_hex v.hash.bytes (rest t v))
 
-pub returns-in-err-write-hex : goal.returns-in-err-write-hex
-returns-in-err-write-hex g c =
+pub returns-in_err-write_hex : goal.returns-in_err-write_hex
+returns-in_err-write_hex g c =
     as_text (pieces c.args.text.now c.args.self.now)
-    (then c.in-ok-write.ensures.writes
-    (stop (34 ∷ rest c.args.text.now c.args.self.now) c.in-err-write-hex.ensures.writes c.from-residual-in-err-write-hex.ensures.0))
+    (then c.in_ok-write.ensures.writes
+    (stop (34 ∷ rest c.args.text.now c.args.self.now) c.in_err-write_hex.ensures.writes c.from_residual-in_err-write_hex.ensures.0))
 
-pub returns-in-err-write-2 : goal.returns-in-err-write-2
-returns-in-err-write-2 g c =
+pub returns-in_err-write-2 : goal.returns-in_err-write-2
+returns-in_err-write-2 g c =
     as_text (pieces c.args.text.now c.args.self.now)
-    (then c.in-ok-write.ensures.writes
-    (then c.in-ok-write-hex.ensures.writes
-    (stop (rest c.args.text.now c.args.self.now) c.in-err-write-2.ensures.writes c.from-residual-in-err-write-2.ensures.0)))
+    (then c.in_ok-write.ensures.writes
+    (then c.in_ok-write_hex.ensures.writes
+    (stop (rest c.args.text.now c.args.self.now) c.in_err-write-2.ensures.writes c.from_residual-in_err-write-2.ensures.0)))
 
-pub returns-in-err-write-after : goal.returns-in-err-write-after
-returns-in-err-write-after g c =
+pub returns-in_err-write_after : goal.returns-in_err-write_after
+returns-in_err-write_after g c =
     as_text (pieces c.args.text.now c.args.self.now)
-    (then c.in-ok-write.ensures.writes
-    (then c.in-ok-write-hex.ensures.writes
-    (then c.in-ok-write-2.ensures.writes
-    (stop (41 ∷ []) c.in-err-write-after.ensures c.from-residual-in-err-write-after.ensures.0))))
+    (then c.in_ok-write.ensures.writes
+    (then c.in_ok-write_hex.ensures.writes
+    (then c.in_ok-write-2.ensures.writes
+    (stop (41 ∷ []) c.in_err-write_after.ensures c.from_residual-in_err-write_after.ensures.0))))
 
 pub returns : goal.returns
 returns g c =
     as_text (pieces c.args.text.now c.args.self.now)
-    (then c.in-ok-write.ensures.writes
-    (then c.in-ok-write-hex.ensures.writes
-    (then c.in-ok-write-2.ensures.writes
-    (then c.in-ok-write-after.ensures c.write-3.ensures.writes))))
+    (then c.in_ok-write.ensures.writes
+    (then c.in_ok-write_hex.ensures.writes
+    (then c.in_ok-write-2.ensures.writes
+    (then c.in_ok-write_after.ensures c.write-3.ensures.writes))))

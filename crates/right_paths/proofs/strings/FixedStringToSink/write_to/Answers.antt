@@ -7,12 +7,12 @@ use Rattle.right_paths.proofs.strings.FixedStringToSink.write_to.Goals as goal
 use Rattle.canonical.specs.Files.{output_value}
 use Rattle.right_paths.proofs.Stringing.{inner_and_path}
 
-pub returns-in-err-write-to : goal.returns-in-err-write-to
-returns-in-err-write-to g c =
+pub returns-in_err-write_to : goal.returns-in_err-write_to
+returns-in_err-write_to g c =
     let s = c.args.self.now in
-    as_text (inner_and_path (output_value s.text.now s.output)) (stop _ c.in-err-write-to.ensures c.from-residual.ensures.0)
+    as_text (inner_and_path (output_value s.text.now s.output)) (stop _ c.in_err-write_to.ensures c.from_residual.ensures.0)
 
 pub returns : goal.returns
 returns g c =
     let s = c.args.self.now in
-    as_text (inner_and_path (output_value s.text.now s.output)) (then c.in-ok-write-to.ensures c.write-said.ensures)
+    as_text (inner_and_path (output_value s.text.now s.output)) (then c.in_ok-write_to.ensures c.write_said.ensures)

@@ -32,6 +32,6 @@ returns g c =
     let s = c.args.self.now in
     let t = s.text.now in
     as_text
-    (masked_text t s.file.now (values (hash_input_value t) (take s.inputs.now.len s.inputs.now.items)) _ _ c.as-slice.result.now
-    c.as-slice.ensures (c.mask-outputs-outputs.ensures t) c.mask-environment-environment.ensures)
-    c.write-fields.ensures
+    (masked_text t s.file.now (values (hash_input_value t) (take s.inputs.now.len s.inputs.now.items)) _ _ c.as_slice.result.now
+    c.as_slice.ensures (c.mask_outputs-outputs.ensures t) c.mask_environment-environment.ensures)
+    c.write_fields.ensures
