@@ -6,7 +6,7 @@ use Rattle.judge.proofs.matcher.means.Goals as goal
 
 pub returns-in-Ok : goal.returns-in-Ok
 returns-in-Ok g c =
-    let s = c.write-to.new.sink in
+    let s = c.write_to.new.sink in
     let t = c.args.text.now in
     is_through c.is_through.result (said t c.args.span.start c.args.span.«end») (expected s.text.now s.end s.at) (g.T.ToSink.bytes c.args.what.now) s.count c.in-Ok.ensures.told.1 c.is_through.ensures
 

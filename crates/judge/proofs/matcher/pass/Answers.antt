@@ -6,12 +6,12 @@ use Rattle.judge.specs.Matching.{matching, expected}
 use Rattle.judge.proofs.Matched.{next_same, next_other, next_none, stays, passed, stopped}
 use Rattle.judge.proofs.matcher.pass.Goals as goal
 
-pub returns-in-err-here : goal.returns-in-err-here
-returns-in-err-here c =
+pub returns-in_err-here : goal.returns-in_err-here
+returns-in_err-here c =
     let to : Option ℕ → List ℕ = expected c.args.text.now c.args.end in
-    ap to c.from-residual.ensures
+    ap to c.from_residual.ensures
     ∙ sym (stays c.args.bytes.now)
-    ∙ ap (λ (o : Option ℕ). steps matching (to o) c.args.bytes.now) (sym c.in-err-here.was)
+    ∙ ap (λ (o : Option ℕ). steps matching (to o) c.args.bytes.now) (sym c.in_err-here.was)
 
 pub returns-then-x-b : goal.returns-then-x-b
 returns-then-x-b c =
@@ -19,7 +19,7 @@ returns-then-x-b c =
     let b = get_or c.args.bytes.now c.loop-b.b-index 0 in
     let n = next_other (said t c.loop-b.here c.args.end) b c.in-Some.x (said t c.in-Some.after c.args.end) c.in-Some.ensures.0 (λ e. omega arith) in
     stopped _ c.args.bytes.now c.loop-b.b-index c.loop-b-test.true (n ∙ ap (λ (s : List ℕ). matching s b) c.loop-b.invariant)
-    ∙ ap (λ (o : Option ℕ). steps matching (expected t c.args.end o) c.args.bytes.now) (sym c.in-ok-here.was)
+    ∙ ap (λ (o : Option ℕ). steps matching (expected t c.args.end o) c.args.bytes.now) (sym c.in_ok-here.was)
 
 pub returns-in-None : goal.returns-in-None
 returns-in-None c =
@@ -27,7 +27,7 @@ returns-in-None c =
     let b = get_or c.args.bytes.now c.loop-b.b-index 0 in
     let n = next_none (said t c.loop-b.here c.args.end) b c.in-None.ensures in
     stopped _ c.args.bytes.now c.loop-b.b-index c.loop-b-test.true (n ∙ ap (λ (s : List ℕ). matching s b) c.loop-b.invariant)
-    ∙ ap (λ (o : Option ℕ). steps matching (expected t c.args.end o) c.args.bytes.now) (sym c.in-ok-here.was)
+    ∙ ap (λ (o : Option ℕ). steps matching (expected t c.args.end o) c.args.bytes.now) (sym c.in_ok-here.was)
 
 pub loop-b-preserved : goal.loop-b-preserved
 loop-b-preserved c =
@@ -40,5 +40,5 @@ pub returns : goal.returns
 returns c =
     let t = c.args.text.now in
     c.loop-b.invariant
-    ∙ ap (steps matching (0 ∷ said t c.in-ok-here.here c.args.end)) (take_all c.loop-b.b-index c.args.bytes.now c.loop-b-test.false)
-    ∙ ap (λ (o : Option ℕ). steps matching (expected t c.args.end o) c.args.bytes.now) (sym c.in-ok-here.was)
+    ∙ ap (steps matching (0 ∷ said t c.in_ok-here.here c.args.end)) (take_all c.loop-b.b-index c.args.bytes.now c.loop-b-test.false)
+    ∙ ap (λ (o : Option ℕ). steps matching (expected t c.args.end o) c.args.bytes.now) (sym c.in_ok-here.was)

@@ -20,10 +20,10 @@ loop-i-preserved c = λ from xs a.
     let v = get_or vs i blank_output in
     let s = split_at output (in_output t) from vs xs i blank_output c.loop-i-test.true a in
     rw add-one (clean_more output (in_output t) (λ ys x. Told r (meaning x.0) (meaning x.1.0)) 1 from vs xs i v s (c.loop-i.invariant from xs a)
-    (right_moved _ _ _ _ (output_name_there t from vs xs i v s) (output_path_there t from vs xs i v s) (c.if-not-is-right.ensures.0 refl)))
+    (right_moved _ _ _ _ (output_name_there t from vs xs i v s) (output_path_there t from vs xs i v s) (c.if-not-is_right.ensures.0 refl)))
 
-pub returns-then-not-is-right : goal.returns-then-not-is-right
-returns-then-not-is-right c = λ from xs a.
+pub returns-then-not-is_right : goal.returns-then-not-is_right
+returns-then-not-is_right c = λ from xs a.
     let r = c.args.right.now in
     let t = r.text.now in
     let vs = c.args.rows.now in
@@ -31,7 +31,7 @@ returns-then-not-is-right c = λ from xs a.
     let v = get_or vs i blank_output in
     let s = split_at output (in_output t) from vs xs i blank_output c.loop-i-test.true a in
     found output (in_output t) (λ ys x. Told r (meaning x.0) (meaning x.1.0)) 1 from vs xs i v s (c.loop-i.invariant from xs a)
-    (λ w. false≢true (c.if-not-is-right.ensures.1 (right_moved _ _ _ _ (sym (output_name_there t from vs xs i v s)) (sym (output_path_there t from vs xs i v s)) w)))
+    (λ w. false≢true (c.if-not-is_right.ensures.1 (right_moved _ _ _ _ (sym (output_name_there t from vs xs i v s)) (sym (output_path_there t from vs xs i v s)) w)))
 
 pub returns : goal.returns
 returns c = λ from xs a.

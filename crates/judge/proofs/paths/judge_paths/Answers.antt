@@ -22,13 +22,13 @@ module _ (path text : Bytes) (file arranged : Derivation) (j : Judgeable path te
   variables_held : (us : List (Placed Variable)) → us ≡ take file.environment.len file.environment.items → Each variable (in_variable text) (place_7 j.tree + 1) us j.tree.1.1.1.1.1.1
   variables_held us e = subst (λ (l : List (Placed Variable)). Each variable (in_variable text) (place_7 j.tree + 1) l j.tree.1.1.1.1.1.1) (sym e) j.held.1.1.1.1.1.1
 
-pub returns-then-not-is-own : goal.returns-then-not-is-own
-returns-then-not-is-own c = λ d g x e right.
+pub returns-then-not-is_own : goal.returns-then-not-is_own
+returns-then-not-is_own c = λ d g x e right.
     let p = c.args.path.now in
     let t = c.args.text.now in
     let m = derivation_value t c.args.arranged.now in
     at_tree d p t g m _ c.requires.tree x c.requires.written e
-    (wrong_path (λ own. false≢true (c.if-not-is-own.ensures.1 (own_back d p g m c.args.own.now.bytes c.args.outputs.now right own))) refl)
+    (wrong_path (λ own. false≢true (c.if-not-is_own.ensures.1 (own_back d p g m c.args.own.now.bytes c.args.outputs.now right own))) refl)
 
 pub returns-in-Some : goal.returns-in-Some
 returns-in-Some c = λ d g x e right.
@@ -40,12 +40,12 @@ returns-in-Some c = λ d g x e right.
     let o = c.args.own.now.bytes in
     let ds = c.args.outputs.now in
     let y = c.requires.tree in
-    let rows = outputs_held p t f a c.requires c.as-slice-rows.result.now c.as-slice-rows.ensures in
+    let rows = outputs_held p t f a c.requires c.as_slice-rows.result.now c.as_slice-rows.ensures in
     at_tree d p t g m _ y x c.requires.written e
-    (wrong_output (own_there d p g m o ds right (c.if-not-is-own.ensures.0 refl)) c.in-Some.spot (output_wrong d p g m o ds right y c.requires.means c.in-Some.spot (c.in-Some.ensures 8 y.0 rows)) refl)
+    (wrong_output (own_there d p g m o ds right (c.if-not-is_own.ensures.0 refl)) c.in-Some.spot (output_wrong d p g m o ds right y c.requires.means c.in-Some.spot (c.in-Some.ensures 8 y.0 rows)) refl)
 
-pub returns-in-Some-first-wrong-variable : goal.returns-in-Some-first-wrong-variable
-returns-in-Some-first-wrong-variable c = λ d g x e right.
+pub returns-in-Some-first_wrong_variable : goal.returns-in-Some-first_wrong_variable
+returns-in-Some-first_wrong_variable c = λ d g x e right.
     let p = c.args.path.now in
     let t = c.args.text.now in
     let f = c.args.file.now in
@@ -54,16 +54,16 @@ returns-in-Some-first-wrong-variable c = λ d g x e right.
     let o = c.args.own.now.bytes in
     let ds = c.args.outputs.now in
     let y = c.requires.tree in
-    let rows = outputs_held p t f a c.requires c.as-slice-rows.result.now c.as-slice-rows.ensures in
-    let us = variables_held p t f a c.requires c.as-slice.result.now c.as-slice.ensures in
-    let w = c.in-Some-first-wrong-variable.spot in
-    let z = c.in-Some-first-wrong-variable.ensures (place_7 y + 1) y.1.1.1.1.1.1 us c.requires.apart.1.1.1.1.1.1.0 8 y.0 rows in
+    let rows = outputs_held p t f a c.requires c.as_slice-rows.result.now c.as_slice-rows.ensures in
+    let us = variables_held p t f a c.requires c.as_slice.result.now c.as_slice.ensures in
+    let w = c.in-Some-first_wrong_variable.spot in
+    let z = c.in-Some-first_wrong_variable.ensures (place_7 y + 1) y.1.1.1.1.1.1 us c.requires.apart.1.1.1.1.1.1.0 8 y.0 rows in
     let first = variable_wrong d p g m o ds right y c.requires.means w z.0 z.1 z.2 in
     at_tree d p t g m _ y x c.requires.written e
-    (wrong_variable (own_there d p g m o ds right (c.if-not-is-own.ensures.0 refl)) (outputs_right d p g m o ds right y c.requires.means (c.in-default.ensures 8 y.0 rows)) z.0 first.0 w first.1 refl)
+    (wrong_variable (own_there d p g m o ds right (c.if-not-is_own.ensures.0 refl)) (outputs_right d p g m o ds right y c.requires.means (c.in_default.ensures 8 y.0 rows)) z.0 first.0 w first.1 refl)
 
-pub returns-in-Some-first-difference : goal.returns-in-Some-first-difference
-returns-in-Some-first-difference c = λ d g x e right.
+pub returns-in-Some-first_difference : goal.returns-in-Some-first_difference
+returns-in-Some-first_difference c = λ d g x e right.
     let p = c.args.path.now in
     let t = c.args.text.now in
     let f = c.args.file.now in
@@ -72,12 +72,12 @@ returns-in-Some-first-difference c = λ d g x e right.
     let o = c.args.own.now.bytes in
     let ds = c.args.outputs.now in
     let y = c.requires.tree in
-    let rows = outputs_held p t f a c.requires c.as-slice-rows.result.now c.as-slice-rows.ensures in
-    let us = variables_held p t f a c.requires c.as-slice.result.now c.as-slice.ensures in
+    let rows = outputs_held p t f a c.requires c.as_slice-rows.result.now c.as_slice-rows.ensures in
+    let us = variables_held p t f a c.requires c.as_slice.result.now c.as_slice.ensures in
     at_tree d p t g m _ y x c.requires.written e
-    (not_canonical (own_there d p g m o ds right (c.if-not-is-own.ensures.0 refl)) (outputs_right d p g m o ds right y c.requires.means (c.in-default.ensures 8 y.0 rows))
-    (variables_right d p g m o ds right y c.requires.means (c.in-default-first-wrong-variable.ensures (place_7 y + 1) y.1.1.1.1.1.1 us c.requires.apart.1.1.1.1.1.1.0 8 y.0 rows))
-    c.in-Some-first-difference.place (c.in-Some-first-difference.ensures 7 y m c.requires.written c.requires.held c.requires.apart c.requires.means) refl)
+    (not_canonical (own_there d p g m o ds right (c.if-not-is_own.ensures.0 refl)) (outputs_right d p g m o ds right y c.requires.means (c.in_default.ensures 8 y.0 rows))
+    (variables_right d p g m o ds right y c.requires.means (c.in_default-first_wrong_variable.ensures (place_7 y + 1) y.1.1.1.1.1.1 us c.requires.apart.1.1.1.1.1.1.0 8 y.0 rows))
+    c.in-Some-first_difference.place (c.in-Some-first_difference.ensures 7 y m c.requires.written c.requires.held c.requires.apart c.requires.means) refl)
 
 pub returns-in-None : goal.returns-in-None
 returns-in-None c = λ d g x e right.
@@ -89,9 +89,9 @@ returns-in-None c = λ d g x e right.
     let o = c.args.own.now.bytes in
     let ds = c.args.outputs.now in
     let y = c.requires.tree in
-    let rows = outputs_held p t f a c.requires c.as-slice-rows.result.now c.as-slice-rows.ensures in
-    let us = variables_held p t f a c.requires c.as-slice.result.now c.as-slice.ensures in
+    let rows = outputs_held p t f a c.requires c.as_slice-rows.result.now c.as_slice-rows.ensures in
+    let us = variables_held p t f a c.requires c.as_slice.result.now c.as_slice.ensures in
     at_tree d p t g m _ y x c.requires.written e
-    (All-right (own_there d p g m o ds right (c.if-not-is-own.ensures.0 refl)) (outputs_right d p g m o ds right y c.requires.means (c.in-default.ensures 8 y.0 rows))
-    (variables_right d p g m o ds right y c.requires.means (c.in-default-first-wrong-variable.ensures (place_7 y + 1) y.1.1.1.1.1.1 us c.requires.apart.1.1.1.1.1.1.0 8 y.0 rows))
+    (All-right (own_there d p g m o ds right (c.if-not-is_own.ensures.0 refl)) (outputs_right d p g m o ds right y c.requires.means (c.in_default.ensures 8 y.0 rows))
+    (variables_right d p g m o ds right y c.requires.means (c.in_default-first_wrong_variable.ensures (place_7 y + 1) y.1.1.1.1.1.1 us c.requires.apart.1.1.1.1.1.1.0 8 y.0 rows))
     (c.in-None.ensures 7 y m c.requires.written c.requires.held c.requires.apart c.requires.means) refl)

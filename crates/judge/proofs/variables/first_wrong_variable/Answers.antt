@@ -21,7 +21,7 @@ loop-row-preserved c = λ at vs a d from xs b.
     let s = split_at output (in_output t) from rows xs i blank_output c.loop-row-test.true b in
     let right_of : Bytes → Type 0 = VariableRight r.path.now (told_outputs r) r.digits.now vs in
     rw add-one (clean_more output (in_output t) (λ ys x. right_of (meaning x.0)) 1 from rows xs i v s (c.loop-row.invariant at vs a d from xs b)
-    (subst right_of (output_name_there t from rows xs i v s) (c.in-default.ensures at vs a d)))
+    (subst right_of (output_name_there t from rows xs i v s) (c.in_default.ensures at vs a d)))
 
 pub returns-in-Some : goal.returns-in-Some
 returns-in-Some c = λ at vs a d from xs b.

@@ -22,16 +22,16 @@ loop-i-preserved c = λ at vs a.
     let n = said_in t c.args.name in
     let s = split_at variable (in_variable t) at us vs i blank_variable c.loop-i-test.true a in
     rw add-one (clean_more variable (in_variable t) (Unnamed n) 7 at us vs i u s (c.loop-i.invariant at vs a)
-    (λ e. not_equal c.compare.result c.compare.ensures c.in-default.not-Equal (name_there r.path.now t (told_outputs r) r.digits.now n at us vs i u s ∙ e)))
+    (λ e. not_equal c.compare.result c.compare.ensures c.in_default.not-Equal (name_there r.path.now t (told_outputs r) r.digits.now n at us vs i u s ∙ e)))
 
-pub returns-then-is-right : goal.returns-then-is-right
-returns-then-is-right c = λ at vs a d.
+pub returns-then-is_right : goal.returns-then-is_right
+returns-then-is_right c = λ at vs a d.
     let r = c.args.right.now in
     let t = r.text.now in
     let us = c.args.variables.now in
     let i = c.loop-i.i in
     let s = split_at variable (in_variable t) at us vs i blank_variable c.loop-i-test.true a in
-    row_right r.path.now t (told_outputs r) r.digits.now (said_in t c.args.name) at us vs i (get_or us i blank_variable) s c.in-Equal.ensures (c.if-is-right.ensures.0 refl)
+    row_right r.path.now t (told_outputs r) r.digits.now (said_in t c.args.name) at us vs i (get_or us i blank_variable) s c.in-Equal.ensures (c.if-is_right.ensures.0 refl)
 
 pub returns-in-Equal : goal.returns-in-Equal
 returns-in-Equal c = λ at vs a d.
@@ -40,7 +40,7 @@ returns-in-Equal c = λ at vs a d.
     let us = c.args.variables.now in
     let i = c.loop-i.i in
     let s = split_at variable (in_variable t) at us vs i blank_variable c.loop-i-test.true a in
-    row_wrong r.path.now t (told_outputs r) r.digits.now (said_in t c.args.name) at us vs i (get_or us i blank_variable) s d c.in-Equal.ensures (λ w. false≢true (c.if-is-right.ensures.1 w))
+    row_wrong r.path.now t (told_outputs r) r.digits.now (said_in t c.args.name) at us vs i (get_or us i blank_variable) s d c.in-Equal.ensures (λ w. false≢true (c.if-is_right.ensures.1 w))
 
 pub returns : goal.returns
 returns c = λ at vs a d.

@@ -16,13 +16,13 @@ cut-requires c =
     let w = held_at string (λ p v. span c.args.text.now v p) c.requires.1.0 c.args.names.now c.requires.1.1 c.loop-name.name-index _ [] c.loop-name-test.true c.requires.1.2 in
     (_, _, w.1)
 
-pub returns-then-not-has-output : goal.returns-then-not-has-output
-returns-then-not-has-output c = λ os ns o n.
+pub returns-then-not-has_output : goal.returns-then-not-has_output
+returns-then-not-has_output c = λ os ns o n.
     let i = c.loop-name.name-index in
     let l : i < length ns = omega (arith, each_length string (λ p v. span c.args.text.now v p) n.0 c.args.names.now ns n.1) in
     let w = held_at string (λ p v. span c.args.text.now v p) n.0 c.args.names.now ns i _ [] c.loop-name-test.true n.1 in (
       λ e. absurd (false≢true e),
-      λ all. absurd (not_from_Decides c.has-output.result (c.has-output.ensures os o) c.if-not-has-output.true
+      λ all. absurd (not_from_Decides c.has_output.result (c.has_output.ensures os o) c.if-not-has_output.true
           (subst (OwnsOutput os) (sym (c.cut.ensures _ _ w.1)) (All-get_or (λ (k : Tree string). OwnsOutput os (raw k)) ns i [] l all))),
     )
 
@@ -32,7 +32,7 @@ loop-name-preserved c = λ os ns o n.
     let l : i < length ns = omega (arith, each_length string (λ p v. span c.args.text.now v p) n.0 c.args.names.now ns n.1) in
     let w = held_at string (λ p v. span c.args.text.now v p) n.0 c.args.names.now ns i _ [] c.loop-name-test.true n.1 in
     All-more (λ (k : Tree string). OwnsOutput os (raw k)) ns i [] l (c.loop-name.invariant os ns o n)
-    (subst (OwnsOutput os) (c.cut.ensures _ _ w.1) ((c.has-output.ensures os o).0 c.if-not-has-output.false))
+    (subst (OwnsOutput os) (c.cut.ensures _ _ w.1) ((c.has_output.ensures os o).0 c.if-not-has_output.false))
 
 pub returns : goal.returns
 returns c = λ os ns o n.

@@ -25,10 +25,10 @@ there c p found =
 same : (c : In-Some) (p : Bytes) → Found (bytes_of c.args.image.now) (files_of c.args.image.now) p c.args.number → c.in-Some.file.path.now ≡ p
 same c p found = let f = c.in-Some.ensures in f.2 ∙ at_path _ _ p c.args.number found f.0
 
-pub has-outputs-requires : goal.has-outputs-requires
-has-outputs-requires c =
+pub has_outputs-requires : goal.has_outputs-requires
+has_outputs-requires c =
     let r = c.in-Ok.ensures.reading in
-    ((8, r.tree.0, subst (λ (vs : List (Placed Output)). Each output (in_output c.in-Some.file.text.now) 8 vs r.tree.0) (sym c.as-slice.ensures) r.held.0), c.requires)
+    ((8, r.tree.0, subst (λ (vs : List (Placed Output)). Each output (in_output c.in-Some.file.text.now) 8 vs r.tree.0) (sym c.as_slice.ensures) r.held.0), c.requires)
 
 pub returns-in-Ok : goal.returns-in-Ok
 returns-in-Ok c = λ ns names plain p found.
@@ -38,8 +38,8 @@ returns-in-Ok c = λ ns names plain p found.
     let set = set_of (bytes_of c.args.image.now) (files_of c.args.image.now) in
     let a : Accepted p text d = subst (λ (q : Bytes). Accepted q text d) (same w p found) c.in-Ok.ensures in
     let os = a.reading.tree.0 in
-    let outputs : OutputsAre text c.as-slice.result.now os = (8, subst (λ (vs : List (Placed Output)). Each output (in_output text) 8 vs os) (sym c.as-slice.ensures) a.reading.held.0) in
-    Decides-like c.has-outputs.result (owned_from set p text (there w p found) d a ns plain) (owned_to set p text (there w p found) d a ns plain) (c.has-outputs.ensures os ns outputs names)
+    let outputs : OutputsAre text c.as_slice.result.now os = (8, subst (λ (vs : List (Placed Output)). Each output (in_output text) 8 vs os) (sym c.as_slice.ensures) a.reading.held.0) in
+    Decides-like c.has_outputs.result (owned_from set p text (there w p found) d a ns plain) (owned_to set p text (there w p found) d a ns plain) (c.has_outputs.ensures os ns outputs names)
 
 pub returns-in-Err : goal.returns-in-Err
 returns-in-Err c = λ ns names plain p found.

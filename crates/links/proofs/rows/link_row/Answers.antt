@@ -17,5 +17,5 @@ returns c = λ at t h plain.
     let p : c.cut.result.now ≡ meaning t.0 = c.cut.ensures _ t.0 h.0 ∙ plain.path in
     let found : Found (bytes_of c.args.image.now) (files_of c.args.image.now) (meaning t.0) c.find-number.result =
     subst (λ (q : Bytes). Found (bytes_of c.args.image.now) (files_of c.args.image.now) q c.find-number.result) p c.find-number.ensures.found in
-    let names : NamesAre text c.as-slice.result.now t.1 = (inner, subst (λ (vs : List (Placed Span)). Each string (λ q v. span text v q) inner vs t.1) (sym c.as-slice.ensures) h.1) in
-    record { file = found; owned = c.is-owned-owned.ensures t.1 names plain.names (meaning t.0) found }
+    let names : NamesAre text c.as_slice.result.now t.1 = (inner, subst (λ (vs : List (Placed Span)). Each string (λ q v. span text v q) inner vs t.1) (sym c.as_slice.ensures) h.1) in
+    record { file = found; owned = c.is_owned-owned.ensures t.1 names plain.names (meaning t.0) found }

@@ -11,8 +11,8 @@ use Rattle.links.specs.Linked.{no_link, no_input, LinkRight}
 use Rattle.links.proofs.Turns.{held_at}
 use Rattle.links.proofs.rows.link_rows.Goals as goal
 
-pub link-row-link-requires : goal.link-row-link-requires
-link-row-link-requires c =
+pub link_row-link-requires : goal.link_row-link-requires
+link_row-link-requires c =
     let p = c.requires.0 in
     let v = c.index-inputs-i.result in
     let w = held_at input (in_input c.args.text.now) p.0 c.args.inputs.now p.1 c.loop-i.i v no_input c.loop-i-test.true p.2 in
@@ -26,7 +26,7 @@ loop-i-preserved c = (
       let n = files_of c.args.image.now in
       let i = c.loop-i.i in
       let rows = c.loop-i.rows in
-      let link = c.link-row-link.result in
+      let link = c.link_row-link.result in
       let v = c.index-inputs-i.result in
       let l : i < length xs = omega (arith, each_length input (in_input c.args.text.now) from c.args.inputs.now xs a) in
       let w = held_at input (in_input c.args.text.now) from c.args.inputs.now xs i v no_input c.loop-i-test.true a in
@@ -34,7 +34,7 @@ loop-i-preserved c = (
       below_more (λ (k : ℕ). LinkRight img n (get_or xs k no_input) (get_or (set rows i link) k no_link)) i
       (λ k h. let other : k ≢ i = omega arith in subst (LinkRight img n (get_or xs k no_input)) (sym (get_or-set_other rows i k link no_link other)) (c.loop-i.invariant.1 from xs a plain k h))
       (subst (LinkRight img n (get_or xs i no_input)) (sym (get_or-set_same rows i link no_link (omega (arith, c.loop-i.invariant.0, c.requires.1))))
-      (c.link-row-link.ensures w.0 (get_or xs i no_input) here (All-get_or PlainInput xs i no_input l plain))),
+      (c.link_row-link.ensures w.0 (get_or xs i no_input) here (All-get_or PlainInput xs i no_input l plain))),
 )
 
 pub returns : goal.returns

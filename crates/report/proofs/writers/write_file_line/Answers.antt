@@ -2,15 +2,15 @@ use Rattle.std.proofs.Common.{[], ◌∷◌}
 use Rattle.sink.proofs.Writing.{then, stop}
 use Rattle.report.proofs.writers.write_file_line.Goals as goal
 
-pub returns-in-err-write-decimal : goal.returns-in-err-write-decimal
-returns-in-err-write-decimal g c = stop _ c.in-err-write-decimal.ensures.writes c.from-residual.ensures.0
+pub returns-in_err-write_decimal : goal.returns-in_err-write_decimal
+returns-in_err-write_decimal g c = stop _ c.in_err-write_decimal.ensures.writes c.from_residual.ensures.0
 
-pub returns-in-err-write-state : goal.returns-in-err-write-state
-returns-in-err-write-state g c =
-    then c.in-ok-write-decimal.ensures.writes
-    (stop (10 ∷ []) c.in-err-write-state.ensures c.from-residual-in-err-write-state.ensures.0)
+pub returns-in_err-write_state : goal.returns-in_err-write_state
+returns-in_err-write_state g c =
+    then c.in_ok-write_decimal.ensures.writes
+    (stop (10 ∷ []) c.in_err-write_state.ensures c.from_residual-in_err-write_state.ensures.0)
 
 pub returns : goal.returns
 returns g c =
-    then c.in-ok-write-decimal.ensures.writes
-    (then c.in-ok-write-state.ensures c.write.ensures.writes)
+    then c.in_ok-write_decimal.ensures.writes
+    (then c.in_ok-write_state.ensures c.write.ensures.writes)

@@ -3,31 +3,31 @@ use Rattle.sink.proofs.Writing.{then, stop}
 use Rattle.report.specs.Texts.{column}
 use Rattle.report.proofs.writers.write_told.Goals as goal
 
-pub returns-in-err-write-column : goal.returns-in-err-write-column
-returns-in-err-write-column g c =
-    stop (column c.args.told.layer ++ (column c.args.told.field ++ (column c.args.told.row ++ column c.args.told.place))) c.in-err-write-column.ensures c.from-residual.ensures.0
+pub returns-in_err-write_column : goal.returns-in_err-write_column
+returns-in_err-write_column g c =
+    stop (column c.args.told.layer ++ (column c.args.told.field ++ (column c.args.told.row ++ column c.args.told.place))) c.in_err-write_column.ensures c.from_residual.ensures.0
 
-pub returns-in-err-write-column-2 : goal.returns-in-err-write-column-2
-returns-in-err-write-column-2 g c =
-    then c.in-ok-write-column.ensures
-    (stop (column c.args.told.field ++ (column c.args.told.row ++ column c.args.told.place)) c.in-err-write-column-2.ensures c.from-residual-in-err-write-column-2.ensures.0)
+pub returns-in_err-write_column-2 : goal.returns-in_err-write_column-2
+returns-in_err-write_column-2 g c =
+    then c.in_ok-write_column.ensures
+    (stop (column c.args.told.field ++ (column c.args.told.row ++ column c.args.told.place)) c.in_err-write_column-2.ensures c.from_residual-in_err-write_column-2.ensures.0)
 
-pub returns-in-err-write-column-3 : goal.returns-in-err-write-column-3
-returns-in-err-write-column-3 g c =
-    then c.in-ok-write-column.ensures
-    (then c.in-ok-write-column-2.ensures
-    (stop (column c.args.told.row ++ column c.args.told.place) c.in-err-write-column-3.ensures c.from-residual-in-err-write-column-3.ensures.0))
+pub returns-in_err-write_column-3 : goal.returns-in_err-write_column-3
+returns-in_err-write_column-3 g c =
+    then c.in_ok-write_column.ensures
+    (then c.in_ok-write_column-2.ensures
+    (stop (column c.args.told.row ++ column c.args.told.place) c.in_err-write_column-3.ensures c.from_residual-in_err-write_column-3.ensures.0))
 
-pub returns-in-err-write-column-4 : goal.returns-in-err-write-column-4
-returns-in-err-write-column-4 g c =
-    then c.in-ok-write-column.ensures
-    (then c.in-ok-write-column-2.ensures
-    (then c.in-ok-write-column-3.ensures
-    (stop (column c.args.told.place) c.in-err-write-column-4.ensures c.from-residual-in-err-write-column-4.ensures.0)))
+pub returns-in_err-write_column-4 : goal.returns-in_err-write_column-4
+returns-in_err-write_column-4 g c =
+    then c.in_ok-write_column.ensures
+    (then c.in_ok-write_column-2.ensures
+    (then c.in_ok-write_column-3.ensures
+    (stop (column c.args.told.place) c.in_err-write_column-4.ensures c.from_residual-in_err-write_column-4.ensures.0)))
 
 pub returns : goal.returns
 returns g c =
-    then c.in-ok-write-column.ensures
-    (then c.in-ok-write-column-2.ensures
-    (then c.in-ok-write-column-3.ensures
-    (then c.in-ok-write-column-4.ensures c.write-column-5.ensures)))
+    then c.in_ok-write_column.ensures
+    (then c.in_ok-write_column-2.ensures
+    (then c.in_ok-write_column-3.ensures
+    (then c.in_ok-write_column-4.ensures c.write_column-5.ensures)))
