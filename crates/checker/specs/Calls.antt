@@ -1,11 +1,11 @@
 -- What each call answers, and what it leaves of the checker, the sink and the buffer: one relation a call, every refusal included.
 -- Source: this project's own rule (docs/CALLS.md, "Calls").
-use Rattle.std.specs.Prelude.{◌≡◌, ℕ, zero, suc, ◌+◌, ◌<◌, ◌≤◌, Bool, true, ◌⊎◌, List, [], ◌∷◌, ◌++◌, length, drop, replicate, Some, None, Ok, Err, Option, Result, slice_index_or}
+use Rattle.std.specs.Prelude.{◌≡◌, ℕ, zero, suc, ◌+◌, ◌<◌, ◌≤◌, ◌⊎◌, List, [], ◌∷◌, ◌++◌, length, drop, replicate, Some, None, Ok, Err, Option, Result, slice_index_or}
 use Rattle.canonical.specs.Meanings.{Meaning, canonical}
 use Rattle.derivation.specs.declared.told.Told.{Told}
 use Rattle.hash_modulo.specs.Hashes.{Digest, Fixed, Hashed}
 use Rattle.hash_modulo.specs.Paths.{References, MaskedString}
-use Rattle.hash_modulo.specs.Sets.{Bytes, Files, Means, Readable, Ready, Rests, Hashable}
+use Rattle.hash_modulo.specs.Sets.{Bytes, Files, Means, Readable, Rests, Hashable}
 use Rattle.hash_modulo.specs.Strings.{own_strings, fixed_strings, output_string, all_lengths, InputsHashed, Digested, no_output, RightPath}
 use Rattle.report.specs.Texts.{line_text, tail_text}
 use Rattle.right_paths.specs.Worked.{HoldsLast}

@@ -1,6 +1,6 @@
 -- What the code's checker stands for, and what is kept right in it whatever the digest.
 -- Source: this project's own rule (docs/CALLS.md, "Calls").
-use Rattle.std.specs.Prelude.{◌≡◌, ℕ, ◌≤◌, true, Ok, Err, Result}
+use Rattle.std.specs.Prelude.{◌≡◌, ℕ, true, Ok, Err, Result}
 use Rattle.image.specs.Files.{bytes_of, files_of}
 use Rattle.image.specs.Opening.{Opens}
 use Rattle.links.specs.Linked.{AllLinked}

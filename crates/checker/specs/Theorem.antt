@@ -1,6 +1,6 @@
 -- What holds of every list of calls from a newly opened checker on, for every kind of digest sink and every image that opens.
 -- Source: this project's own rule (docs/PROMISES.md, "Runs").
-use Rattle.std.specs.Prelude.{◌≡◌, ℕ, ◌+◌, ◌%◌, ◌^◌, ◌<◌, ◌≤◌, true, ◌⊎◌, List, [], ◌∷◌, ◌++◌, length, take, Some, None, Ok, Err, Option, Result}
+use Rattle.std.specs.Prelude.{◌≡◌, ℕ, ◌+◌, ◌%◌, ◌^◌, ◌<◌, ◌≤◌, true, ◌⊎◌, List, [], ◌∷◌, length, take, Some, None, Ok, Err, Option, Result}
 use Rattle.std.specs.List.{AllByRecursion}
 use Rattle.canonical.specs.Meanings.{Meaning, canonical}
 use Rattle.canonical.specs.Order.{Member}
@@ -16,9 +16,9 @@ use Rattle.verdict.specs.Laws.{Sound, BothUnhashed}
 use Rattle.verdict.specs.declared.fault.Fault.TheVariants.{NotCanonical}
 use Rattle.verdict.specs.declared.fault.Verdict.{Verdict}
 use Rattle.verdict.specs.declared.fault.Verdict.TheVariants.{Accepted, Refused}
-use Rattle.checker.specs.Calls.{Kind, D, Outcome, Takes, Settles, PutsBack, Tells, Lines, Tails, Rewrites, Paths, OnCycle, Circles, PathStrings, Holds}
-use Rattle.checker.specs.Events.{Event, took, settled, returned, told, located, rewritten, circled, lined, tailed, Stage, Happens, Runs}
-use Rattle.checker.specs.Views.{View, fresh, files, path_at, Exists, TakenAt, HashedAt}
+use Rattle.checker.specs.Calls.{Kind, D, Takes, Settles, PutsBack, Tells, Lines, Tails, Rewrites, Paths, Circles}
+use Rattle.checker.specs.Events.{Event, took, settled, returned, told, located, rewritten, circled, lined, tailed, Stage, Runs}
+use Rattle.checker.specs.Views.{View, fresh, files, path_at, Exists, TakenAt}
 use Rattle.checker.specs.declared.refused.CallRefusal.{CallRefusal}
 use Rattle.checker.specs.declared.refused.CallRefusal.TheVariants.{NotRead}
 use Rattle.checker.specs.declared.state.Hashes.{Hashes}

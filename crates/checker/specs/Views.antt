@@ -1,10 +1,10 @@
 -- What a checker stands for: the files of an image by their numbers, and the state of each; which files are ready.
 -- Source: this project's own rule (docs/CALLS.md, "Calls").
-use Rattle.std.specs.Prelude.{◌≡◌, ℕ, ◌<◌, ◌≤◌, Bool, true, List, [], Some, None, Option, ◌≢◌}
+use Rattle.std.specs.Prelude.{◌≡◌, ℕ, ◌≤◌, Bool, true, Some, None, Option, ◌≢◌}
 use Rattle.canonical.specs.Meanings.{Meaning}
 use Rattle.hash_modulo.specs.Sets as sets
 use Rattle.hash_modulo.specs.Sets.{Bytes, Files, Means, Row, Names}
-use Rattle.image.specs.Layout.{file_path, file_text}
+use Rattle.image.specs.Layout.{file_path}
 use Rattle.links.specs.Sets.{set_of}
 use Rattle.verdict.specs.declared.fault.Verdict.{Verdict}
 use Rattle.checker.specs.declared.state.Hashes.{Hashes}

@@ -1,4 +1,6 @@
 // Questions 21 to 24 to one file whose right paths are worked out.
+#![tactic(auto)]
+
 mod matcher;
 mod outputs;
 mod paths;

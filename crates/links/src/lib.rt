@@ -1,4 +1,6 @@
 // Which files of an image name which, and whether those own the outputs that are wanted of them.
+#![tactic(auto)]
+
 mod finding;
 mod laws;
 mod link;

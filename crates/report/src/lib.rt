@@ -1,4 +1,6 @@
 // The texts of the final report: a line a file, the line of a refusal, and the last line.
+#![tactic(auto)]
+
 mod text;
 mod values;
 mod writers;

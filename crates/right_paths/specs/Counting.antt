@@ -1,6 +1,6 @@
 -- The meaning of a layer that counts the bytes it passes on: its state is a count, and then the state of the sink below.
 -- Source: this project's own definition of a sink (docs/FORMATS.md, "Sinks").
-use Rattle.std.specs.Prelude.{ℕ, ◌+◌, ◌%◌, ◌^◌, List, [], ◌∷◌}
+use Rattle.std.specs.Prelude.{ℕ, ◌+◌, ◌%◌, ◌^◌, [], ◌∷◌}
 use Rattle.sink.specs.Write.{Step, Held}
 
 -- the count wraps at 64 bits, as a total does

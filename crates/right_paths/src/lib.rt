@@ -1,4 +1,6 @@
 // The hash, the masked hash and the right paths of one file, given the hashes of its inputs.
+#![tactic(auto)]
+
 mod counting;
 mod digests;
 mod file;

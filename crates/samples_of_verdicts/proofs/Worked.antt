@@ -25,7 +25,7 @@ use Rattle.verdict.specs.declared.fault.Verdict.{Verdict}
 use Rattle.verdict.specs.declared.fault.Verdict.TheVariants.{Accepted, Refused}
 use Rattle.verdict.proofs.One.{one_verdict}
 use Rattle.samples_of_verdicts.specs.Samples.{Said, VerdictIs, only_file, path, right_text, bare_text}
-use Rattle.samples_of_verdicts.specs.Zeros.{zero_answer}
+use Rattle.samples.specs.Zeros.{zero_answer}
 
 pub needless : Said (codes "\"\\a\"") (codes "a") (codes "\"a\"")
 needless = record { string = escaped 97 ∷ []; written = refl; meant = refl; read = refl; again = refl }

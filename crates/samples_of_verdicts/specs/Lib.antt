@@ -1,2 +1,1 @@
 pub mod Samples
-pub mod Zeros

@@ -12,7 +12,7 @@ use Rattle.verdict.specs.Judged.{Judged}
 use Rattle.verdict.specs.declared.fault.Fault.TheVariants.{WrongVariable}
 use Rattle.verdict.specs.declared.fault.Verdict.{Verdict}
 use Rattle.verdict.specs.declared.fault.Verdict.TheVariants.{Accepted, Refused}
-use Rattle.samples_of_verdicts.specs.Zeros.{zero_answer}
+use Rattle.samples.specs.Zeros.{zero_answer}
 
 -- one example: what is found and what is wanted; a string with its quotes, what it means and its canonical text; the verdict of the file at a path of a set
 pub data Sample : Type 0 where

@@ -2,7 +2,6 @@
 -- Source: this project's own rule (docs/CALLS.md, "Verdict"), over the hashes and right paths of E. Dolstra,
 -- The Purely Functional Software Deployment Model (2006), section 5.5.
 use Rattle.std.specs.Prelude.{◌≡◌, ℕ, List, map, Some, None, ◌≢◌}
-use Rattle.std.specs.List.{AllByRecursion}
 use Rattle.aterm.specs.Files.{output, input, variable, derivation}
 use Rattle.aterm.specs.Grammar.{Tree, meaning}
 use Rattle.canonical.specs.Differences.{DifferAt}
@@ -16,7 +15,7 @@ use Rattle.derivation.specs.declared.fault.FileFault.{FileFault}
 use Rattle.derivation.specs.declared.spot.Spot.{Spot}
 use Rattle.hash_modulo.specs.Hashes.{Digest}
 use Rattle.hash_modulo.specs.Paths.{OwnPath, OutputPath}
-use Rattle.hash_modulo.specs.Sets.{Bytes, Files, Present, Means, Row, Owned, Ready, Hashable}
+use Rattle.hash_modulo.specs.Sets.{Bytes, Files, Present, Means, Row, Owned, Hashable}
 use Rattle.hash_modulo.specs.Strings.{InputsHashed}
 use Rattle.verdict.specs.declared.fault.Fault.TheVariants.{Reading, Absent, Unowned, Unhashed, WrongPath, WrongOutput, WrongVariable, NotCanonical}
 use Rattle.verdict.specs.declared.fault.Verdict.{Verdict}

@@ -1,4 +1,6 @@
 // The verdict of a file of a set: accepted, or its first fault.
+#![tactic(auto)]
+
 mod fault;
 mod laws;
 mod told;

@@ -1,7 +1,8 @@
 // Opening a set, and visits to its files: put back.
-ghost use Rattle.std.specs.Prelude.{◌≡◌, MatchResult};
-ghost use Rattle.checker.specs.Calls.{PutsBack};
-ghost use Rattle.checker.specs.Seen.{view_of, Stays, told_back};
+ghost use Rattle.std.specs.Prelude.{◌≡◌, MatchOption};
+ghost use Rattle.checker.specs.Calls.{PutsBack, VisitRefused};
+ghost use Rattle.checker.specs.Seen.{view_of, told_back};
+ghost use Rattle.checker.specs.Views.{Open, TakenAt};
 
 use super::{Checker, Visit};
 use crate::refused::CallRefusal;
@@ -9,7 +10,9 @@ use crate::state::State;
 
 impl<'a> Checker<'a> {
     // Why a visit is not taken here, if it is not.
-    fn not_taken(&self, visit: &Visit) -> Option<CallRefusal> {
+    fn not_taken(&self, visit: &Visit) -> Option<CallRefusal>
+        ensures { MatchOption result (Open (view_of self.now) × TakenAt (view_of self.now) visit.now.file) (VisitRefused (view_of self.now) visit.now.file) }
+    {
         if !self.opened {
             return Some(CallRefusal::NotOpened);
         }

@@ -1,5 +1,5 @@
 // What is asked of the rows, and how one of them changes.
-ghost use Rattle.std.specs.Prelude.{◌≡◌, ℕ, ◌≤◌};
+ghost use Rattle.std.specs.Prelude.{◌≡◌, ℕ, ◌<◌, ◌≤◌, length, slice_set};
 ghost use Rattle.checker.specs.Rows.{row_at, RowChanged};
 ghost use Rattle.checker.specs.declared.state.State.TheVariants.{Pending as Waiting};
 
@@ -11,6 +11,14 @@ fn change(row: &mut State, state: State)
     ensures { row.new ≡ state }
 {
     *row = state;
+}
+
+// The row at a place of the table is lent to be changed.
+fn put_row(rows: &mut [State; 256], at: usize, state: State)
+    requires { at < length rows.old }
+    ensures { rows.new ≡ slice_set rows.old at state }
+{
+    change(&mut rows[at], state);
 }
 
 impl States {
@@ -38,6 +46,6 @@ impl States {
         requires { (1 ≤ file) × (file ≤ 256) }
         ensures { RowChanged self.old file state self.new }
     {
-        change(&mut self.rows[file - 1], state);
+        put_row(&mut self.rows, file - 1, state);
     }
 }

@@ -1,4 +1,4 @@
-use Rattle.std.proofs.Common.{◌≡◌, ℕ, List, length}
+use Rattle.std.proofs.Common.{◌≡◌, length}
 use Rattle.canonical.specs.Files.{values, output_value, variable_value}
 use Rattle.hash_modulo.specs.Paths.{mask_variable}
 use Rattle.right_paths.proofs.Masking.{Changed}

@@ -1,4 +1,4 @@
-use Rattle.std.proofs.Common.{◌≡◌, ℕ, List, [], ◌∷◌, ◌++◌, refl, ap, ◌∙◌}
+use Rattle.std.proofs.Common.{ℕ, List, ◌∷◌, ◌++◌, refl, ap, ◌∙◌}
 use Rattle.sink.proofs.Writing.{then, stop, as_text}
 use Rattle.canonical.specs.Decode.{said}
 use Rattle.right_paths.proofs.Naming.{name_out, name_other, says_not}

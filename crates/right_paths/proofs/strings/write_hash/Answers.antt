@@ -1,8 +1,6 @@
-use Rattle.std.proofs.Common.{◌≡◌, ℕ, List, [], ◌∷◌, ◌++◌, codes, sym, ap, ◌∙◌, append_assoc}
-use Rattle.sink.proofs.Writing.{then, stop, as_text}
+use Rattle.std.proofs.Common.{◌++◌, codes}
+use Rattle.sink.proofs.Writing.{then, stop}
 use Rattle.sink.specs.Numerals.{hex}
-use Rattle.canonical.specs.Decode.{said}
-use Rattle.derivation.specs.Questions.{output_name}
 use Rattle.right_paths.proofs.strings.write_hash.Goals as goal
 
 pub returns-in_err-write : goal.returns-in_err-write

@@ -1,4 +1,4 @@
-use Rattle.std.proofs.Common.{◌≡◌, ℕ, refl, ap}
+use Rattle.std.proofs.Common.{◌≡◌, refl, ap}
 use borrow.Rule.Reborrow.{re_v}
 use Rattle.std.proofs.lemmas.Result.{MatchResult-from_err}
 use Rattle.sink.specs.Write.{Held}

@@ -1,8 +1,4 @@
-use Rattle.std.proofs.Common.{◌≡◌, ℕ, List, [], ◌∷◌, ◌++◌, codes, sym, ap, ◌∙◌, append_assoc}
 use Rattle.sink.proofs.Writing.{then, stop, as_text}
-use Rattle.sink.specs.Numerals.{hex}
-use Rattle.canonical.specs.Decode.{said}
-use Rattle.derivation.specs.Questions.{output_name}
 use Rattle.right_paths.proofs.strings.FixedStringToSink.write_to.Goals as goal
 use Rattle.canonical.specs.Files.{output_value}
 use Rattle.right_paths.proofs.Stringing.{inner_and_path}

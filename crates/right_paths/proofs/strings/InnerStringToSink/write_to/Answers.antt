@@ -1,8 +1,6 @@
-use Rattle.std.proofs.Common.{◌≡◌, ℕ, List, [], ◌∷◌, ◌++◌, codes, sym, ap, ◌∙◌, append_assoc}
-use Rattle.sink.proofs.Writing.{then, stop, as_text}
-use Rattle.sink.specs.Numerals.{hex}
+use Rattle.std.proofs.Common.{[], ◌∷◌, ◌++◌}
+use Rattle.sink.proofs.Writing.{then, stop}
 use Rattle.canonical.specs.Decode.{said}
-use Rattle.derivation.specs.Questions.{output_name}
 use Rattle.right_paths.proofs.strings.InnerStringToSink.write_to.Goals as goal
 
 pub returns-in_err-write : goal.returns-in_err-write

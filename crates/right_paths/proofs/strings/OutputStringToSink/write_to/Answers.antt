@@ -1,4 +1,4 @@
-use Rattle.std.proofs.Common.{◌≡◌, ℕ, List, [], ◌∷◌, ◌++◌, codes, sym, ap, ◌∙◌, append_assoc}
+use Rattle.std.proofs.Common.{◌++◌, codes, sym, append_assoc}
 use Rattle.sink.proofs.Writing.{then, stop, as_text}
 use Rattle.sink.specs.Numerals.{hex}
 use Rattle.canonical.specs.Decode.{said}

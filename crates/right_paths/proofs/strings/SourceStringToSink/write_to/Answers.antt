@@ -1,6 +1,5 @@
-use Rattle.std.proofs.Common.{◌≡◌, ℕ, List, [], ◌∷◌, ◌++◌, codes, sym, ap, ◌∙◌, append_assoc}
-use Rattle.sink.proofs.Writing.{then, stop, as_text}
-use Rattle.sink.specs.Numerals.{hex}
+use Rattle.std.proofs.Common.{◌++◌, codes}
+use Rattle.sink.proofs.Writing.{then, stop}
 use Rattle.canonical.specs.Decode.{said}
 use Rattle.derivation.specs.Questions.{output_name}
 use Rattle.right_paths.proofs.strings.SourceStringToSink.write_to.Goals as goal
