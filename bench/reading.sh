@@ -1,6 +1,6 @@
 #!/usr/bin/env bash
 # Times the reading of a derivation's text, and its rewriting in canonical form: the proved program and plain Rust. Not part of any check.
-# Wants: `rt check reading_bench` done before, and rustc.
+# Wants: `rt run` in crates/reading_bench done before, and rustc.
 set -euo pipefail
 cd "$(dirname "$0")/.."
 
@@ -15,7 +15,7 @@ rustc -C opt-level=3 --check-cfg 'cfg(pairs)' --cfg pairs -o "$out/pairs" bench/
 
 # pairs is the Rust program that looks for equal keys in pairs, as the proved one does
 names=(rattle rust pairs)
-declare -A program=([rattle]=target/bin/reading_bench [rust]=$out/rust [pairs]=$out/pairs)
+declare -A program=([rattle]=crates/reading_bench/out/reading_bench [rust]=$out/rust [pairs]=$out/pairs)
 declare -A best
 
 # the microseconds that a command takes

@@ -1,13 +1,13 @@
 #!/usr/bin/env bash
 # Times SHA-256 of 16 MiB: the proved program, the same work in C, and coreutils' sha256sum. Not part of any check.
-# Wants: `rt check sha256_bench` done before, gcc, and the C library's headers.
+# Wants: `rt run` in crates/sha256_bench done before, gcc, and the C library's headers.
 set -euo pipefail
 cd "$(dirname "$0")/.."
 
 runs=${1:-15}
 out=target/bench
 mkdir -p "$out"
-kit=$(dirname "$(dirname "$(rt doc)")")
+kit=$(dirname "$(rt doc)")
 
 # Rattle's clang comes without C headers of its own and is given gcc's; gcc links.
 "$kit/toolchain/bin/clang" -O3 -isystem "$(gcc -print-file-name=include)" -c -o "$out/clang.o" bench/sha256.c
@@ -38,18 +38,18 @@ keep() {
     if [ -z "${table[$name]:-}" ] || [ "$us" -lt "${table[$name]}" ]; then table[$name]=$us; fi
 }
 
-want=$(target/bin/sha256_bench)
+want=$(crates/sha256_bench/out/sha256_bench)
 for p in "$out/clang" "$out/gcc"; do
     [ "$("$p")" = "$want" ] || { echo "$p answers another digest" >&2; exit 1; }
 done
 
 # the programs take turns, so that a slow moment of the machine falls on all
 for _ in $(seq "$runs"); do
-    keep once rattle target/bin/sha256_bench 1
+    keep once rattle crates/sha256_bench/out/sha256_bench 1
     keep once clang "$out/clang" 1
     keep once gcc "$out/gcc" 1
     keep once sum sha256sum "$out/data"
-    keep more rattle target/bin/sha256_bench 11
+    keep more rattle crates/sha256_bench/out/sha256_bench 11
     keep more clang "$out/clang" 11
     keep more gcc "$out/gcc" 11
     keep more sum sha256sum "${eleven[@]}"
