@@ -5,7 +5,6 @@ ghost use Rattle.samples.specs.Samples.{Samples};
 
 mod zeros;
 
-use sink::{DigestSink, Sink};
 pub use zeros::Zeros;
 
 // Every example of the table holds.

@@ -1,23 +1,23 @@
 -- The steps of the loops over a block.
 use Rattle.std.proofs.Common.{◌≡◌, ℕ, ◌+◌, ◌-◌, ◌<◌, ◌≤◌, cond, List, [], ◌∷◌, ◌++◌, length, get_or, take, set, sym, refl, ap, ◌∙◌, subst, add-one, arith, le-ltb, lt-ltb}
 use Rattle.std.proofs.lemmas.List.{take_more_set, get_or-take, take_all}
-use Rattle.sha256.specs.Fips.{add32, σ0, σ1, word_at, mixed, nextWord, schedule, round, rounds, K}
+use Rattle.sha256.specs.Fips.{add32, σ0, σ1, word_at, mixed, next_word, schedule, round, rounds, K}
 
 pub schedule_none : (b w : List ℕ) → take 0 w ≡ schedule 0 b
 unfolding schedule
 schedule_none b w = refl
 
-schedule_suc : (t : ℕ) (b : List ℕ) → schedule (t + 1) b ≡ schedule t b ++ nextWord b (schedule t b) t ∷ []
+schedule_suc : (t : ℕ) (b : List ℕ) → schedule (t + 1) b ≡ schedule t b ++ next_word b (schedule t b) t ∷ []
 unfolding schedule
 schedule_suc t b = rw add-one refl
 
 -- one more word stored
-pub schedule_more : (b w : List ℕ) (t v : ℕ) → t < length w → take t w ≡ schedule t b → v ≡ nextWord b (take t w) t → take (t + 1) (set w t v) ≡ schedule (t + 1) b
+pub schedule_more : (b w : List ℕ) (t v : ℕ) → t < length w → take t w ≡ schedule t b → v ≡ next_word b (take t w) t → take (t + 1) (set w t v) ≡ schedule (t + 1) b
 schedule_more b w t v h e n =
-    take_more_set w t v h ∙ (λ i. e i ++ (n ∙ ap (λ l. nextWord b l t) e) i ∷ []) ∙ sym (schedule_suc t b)
+    take_more_set w t v h ∙ (λ i. e i ++ (n ∙ ap (λ l. next_word b l t) e) i ∷ []) ∙ sym (schedule_suc t b)
 
-pub early : (b ws : List ℕ) (t v : ℕ) → t < 16 → v ≡ word_at b t → v ≡ nextWord b ws t
-unfolding nextWord
+pub early : (b ws : List ℕ) (t v : ℕ) → t < 16 → v ≡ word_at b t → v ≡ next_word b ws t
+unfolding next_word
 early b ws t v h e = e ∙ sym (ap (λ q. cond q (word_at b t) (mixed ws t)) (lt-ltb t 16 h))
 
 -- `mixed` looks only at words before t
@@ -26,8 +26,8 @@ mixed_front w t h =
     let back : (k : ℕ) → 0 < k → k ≤ 16 → get_or w (t - k) 0 ≡ get_or (take t w) (t - k) 0 = λ k p q. sym (get_or-take t w (t - k) 0 (omega arith)) in
     λ i. add32 (add32 (add32 (σ1 (back 2 (omega arith) (omega arith) i)) (back 7 (omega arith) (omega arith) i)) (σ0 (back 15 (omega arith) (omega arith) i))) (back 16 (omega arith) (omega arith) i)
 
-pub late : (b w : List ℕ) (t v : ℕ) → 16 ≤ t → v ≡ mixed w t → v ≡ nextWord b (take t w) t
-unfolding nextWord
+pub late : (b w : List ℕ) (t v : ℕ) → 16 ≤ t → v ≡ mixed w t → v ≡ next_word b (take t w) t
+unfolding next_word
 late b w t v h e = e ∙ mixed_front w t h ∙ sym (ap (λ q. cond q (word_at b t) (mixed (take t w) t)) (le-ltb t 16 h))
 
 pub schedule_all : (b w : List ℕ) (t : ℕ) → t ≡ 64 → length w ≡ 64 → take t w ≡ schedule t b → w ≡ schedule 64 b

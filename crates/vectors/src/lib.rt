@@ -1,6 +1,6 @@
+// The example messages of FIPS 180-4, and the bound on the length of a message.
 #![tactic(auto)]
 
-// The example messages of FIPS 180-4, and the bound on the length of a message.
 #[cfg(test)]
 mod tests {
     use sha256::Sha256;
