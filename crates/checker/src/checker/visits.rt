@@ -1,7 +1,7 @@
 // Opening a set, and visits to its files: put back.
-ghost use Rattle.std.specs.Prelude.{◌≡◌, MatchOption};
+ghost use Rattle.std.specs.Prelude.{◌≡◌, MatchOption, OnErr, IfErr};
 ghost use Rattle.checker.specs.Calls.{PutsBack, VisitRefused};
-ghost use Rattle.checker.specs.Seen.{view_of, told_back};
+ghost use Rattle.checker.specs.Seen.{view_of, Stays, told_back};
 ghost use Rattle.checker.specs.Views.{Open, TakenAt};
 
 use super::{Checker, Visit};
@@ -28,6 +28,9 @@ impl<'a> Checker<'a> {
     // The file is pending again; a refusal hands the visit back.
     pub fn put_back(&mut self, visit: Visit) -> Result<(), (Visit, CallRefusal)>
         ensures puts { PutsBack (view_of self.old) visit.file (told_back result) (view_of self.new) }
+        ensures stays { Stays self.old self.new }
+        ensures same { OnErr result (self.new ≡ self.old) }
+        ensures back { IfErr result (λ e. e.0 ≡ visit) }
     {
         if let Some(refusal) = self.not_taken(&visit) {
             return Err((visit, refusal));
