@@ -1,9 +1,10 @@
 -- What a reader answers: the tree that is written from one place of the text to another, or the first place at which no tree goes on.
 -- Source: this project's own rule (docs/CALLS.md).
-use Rattle.std.specs.Prelude.{◌≡◌, ℕ, ◌+◌, ◌-◌, ◌<◌, ◌≤◌, List, [], ◌∷◌, ◌++◌, map, length, take, drop, Ok, Err, Result, ◌≢◌, slice_index}
+use Rattle.std.specs.Prelude.{◌≡◌, ℕ, ◌+◌, ◌-◌, ◌<◌, ◌≤◌, List, [], ◌∷◌, ◌++◌, map, length, take, drop, Ok, Err, Result, ◌≢◌, slice_index, OnErr}
 use Rattle.aterm.specs.declared.fault.Cause.{Cause}
 use Rattle.aterm.specs.declared.fault.Cause.TheVariants.{Byte, Row}
 use Rattle.aterm.specs.declared.fault.Fault.{Fault}
+use Rattle.aterm.specs.declared.reader.Reader.{Reader}
 use Rattle.aterm.specs.declared.rows.Placed.{Placed}
 use Rattle.aterm.specs.Grammar.{Sign, byte, over, end, signs, Shape, Tree, opener, write, begin, Char, raw}
 
@@ -53,6 +54,27 @@ Next b text at (Err f) = (f.place ≡ at) × (f.cause ≡ Byte) × (at < length 
 abbrev pub Passes : List ℕ → List ℕ → Result ℕ Fault → Type 0
 Passes word text (Ok next) = (next ≤ length text) × (signs text ≡ map byte word ++ drop next (signs text))
 Passes word text (Err f) = Stops {X = Unit {0}} (λ _. map byte word) (signs text) 0 f.place f.cause
+
+-- what a reader answered, with the place to which it came
+abbrev pub came : {V : Type 0} → Result V Fault → ℕ → Result (V × ℕ) Fault
+came (Ok v) at = Ok (v, at)
+came (Err f) at = Err f
+
+abbrev pub moved : Result (Unit {0}) Fault → ℕ → Result ℕ Fault
+moved (Ok u) at = Ok at
+moved (Err f) at = Err f
+
+abbrev pub begun : Result Reader Fault → Result ℕ Fault
+begun (Ok r) = Ok r.at
+begun (Err f) = Err f
+
+-- a reader of a text goes on in it
+abbrev pub Goes : {X V : Type 0} → (X → List Sign) → (List ℕ → ℕ → V → X → Type 0) → Reader → Result V Fault → Reader → Type 0
+Goes w H old r new = (text : List ℕ) → old.text.now ≡ text → (new.text.now ≡ text) × Answers w (H text old.at) text old.at (came r new.at)
+
+-- a reader passes a byte, or stays where it is
+abbrev pub Meets : ℕ → Reader → Result (Unit {0}) Fault → Reader → Type 0
+Meets b old r new = (text : List ℕ) → old.text.now ≡ text → (new.text.now ≡ text) × (Next b text old.at (moved r new.at) × OnErr r (new.at ≡ old.at))
 
 -- a field, with the byte that closes it
 abbrev pub written_field : (s : Shape) → ℕ → Tree s → List Sign

@@ -2,11 +2,12 @@
 ghost use Rattle.aterm.specs.Files.{output, input, variable, derivation, in_output, in_input, in_variable, in_derivation, Judged};
 
 use crate::fault::{Cause, Fault};
-use crate::part::{Part, Span, expect_word, read_field};
+use crate::part::{Part, Span};
+use crate::reader::Reader;
 use crate::rows::Rows;
 
 // A row of field 1: (name,path,algorithm,hash).
-#[derive(Clone, Copy)]
+#[derive(Clone, Copy, Default)]
 pub struct Output {
     pub name: Span,
     pub path: Span,
@@ -19,36 +20,26 @@ impl Part for Output {
 
     ghost holds = { in_output };
 
-    fn blank() -> Output {
-        Output {
-            name: Span::blank(),
-            path: Span::blank(),
-            algorithm: Span::blank(),
-            hash: Span::blank(),
-        }
-    }
-
     fn open() -> u8 {
         b'('
     }
 
-    fn rest(text: &[u8], at: usize) -> Result<(Output, usize), Fault> {
-        let (name, second) = read_field::<Span>(text, at, b',')?;
-        let (path, third) = read_field::<Span>(text, second, b',')?;
-        let (algorithm, fourth) = read_field::<Span>(text, third, b',')?;
-        let (hash, next) = read_field::<Span>(text, fourth, b')')?;
-        let value = Output {
+    fn rest(reader: &mut Reader<'_>) -> Result<Output, Fault> {
+        let name = reader.field::<Span>(b',')?;
+        let path = reader.field::<Span>(b',')?;
+        let algorithm = reader.field::<Span>(b',')?;
+        let hash = reader.field::<Span>(b')')?;
+        Ok(Output {
             name,
             path,
             algorithm,
             hash,
-        };
-        Ok((value, next))
+        })
     }
 }
 
 // A row of field 2: the path of a derivation, and the names of the outputs that are used.
-#[derive(Clone, Copy)]
+#[derive(Clone, Copy, Default)]
 pub struct Input {
     pub path: Span,
     pub names: Rows<Span, 16>,
@@ -59,27 +50,19 @@ impl Part for Input {
 
     ghost holds = { in_input };
 
-    fn blank() -> Input {
-        Input {
-            path: Span::blank(),
-            names: Rows::blank(),
-        }
-    }
-
     fn open() -> u8 {
         b'('
     }
 
-    fn rest(text: &[u8], at: usize) -> Result<(Input, usize), Fault> {
-        let (path, second) = read_field::<Span>(text, at, b',')?;
-        let (names, next) = read_field::<Rows<Span, 16>>(text, second, b')')?;
-        let value = Input { path, names };
-        Ok((value, next))
+    fn rest(reader: &mut Reader<'_>) -> Result<Input, Fault> {
+        let path = reader.field::<Span>(b',')?;
+        let names = reader.field::<Rows<Span, 16>>(b')')?;
+        Ok(Input { path, names })
     }
 }
 
 // A row of field 7: (name,value).
-#[derive(Clone, Copy)]
+#[derive(Clone, Copy, Default)]
 pub struct Variable {
     pub name: Span,
     pub value: Span,
@@ -90,27 +73,19 @@ impl Part for Variable {
 
     ghost holds = { in_variable };
 
-    fn blank() -> Variable {
-        Variable {
-            name: Span::blank(),
-            value: Span::blank(),
-        }
-    }
-
     fn open() -> u8 {
         b'('
     }
 
-    fn rest(text: &[u8], at: usize) -> Result<(Variable, usize), Fault> {
-        let (name, second) = read_field::<Span>(text, at, b',')?;
-        let (value, next) = read_field::<Span>(text, second, b')')?;
-        let value = Variable { name, value };
-        Ok((value, next))
+    fn rest(reader: &mut Reader<'_>) -> Result<Variable, Fault> {
+        let name = reader.field::<Span>(b',')?;
+        let value = reader.field::<Span>(b')')?;
+        Ok(Variable { name, value })
     }
 }
 
 // The seven fields.
-#[derive(Clone, Copy)]
+#[derive(Clone, Copy, Default)]
 pub struct Derivation {
     pub outputs: Rows<Output, 16>,
     pub inputs: Rows<Input, 64>,
@@ -126,31 +101,19 @@ impl Part for Derivation {
 
     ghost holds = { in_derivation };
 
-    fn blank() -> Derivation {
-        Derivation {
-            outputs: Rows::blank(),
-            inputs: Rows::blank(),
-            sources: Rows::blank(),
-            system: Span::blank(),
-            builder: Span::blank(),
-            arguments: Rows::blank(),
-            environment: Rows::blank(),
-        }
-    }
-
     fn open() -> u8 {
         b'('
     }
 
-    fn rest(text: &[u8], at: usize) -> Result<(Derivation, usize), Fault> {
-        let (outputs, second) = read_field::<Rows<Output, 16>>(text, at, b',')?;
-        let (inputs, third) = read_field::<Rows<Input, 64>>(text, second, b',')?;
-        let (sources, fourth) = read_field::<Rows<Span, 64>>(text, third, b',')?;
-        let (system, fifth) = read_field::<Span>(text, fourth, b',')?;
-        let (builder, sixth) = read_field::<Span>(text, fifth, b',')?;
-        let (arguments, seventh) = read_field::<Rows<Span, 64>>(text, sixth, b',')?;
-        let (environment, next) = read_field::<Rows<Variable, 128>>(text, seventh, b')')?;
-        let value = Derivation {
+    fn rest(reader: &mut Reader<'_>) -> Result<Derivation, Fault> {
+        let outputs = reader.field::<Rows<Output, 16>>(b',')?;
+        let inputs = reader.field::<Rows<Input, 64>>(b',')?;
+        let sources = reader.field::<Rows<Span, 64>>(b',')?;
+        let system = reader.field::<Span>(b',')?;
+        let builder = reader.field::<Span>(b',')?;
+        let arguments = reader.field::<Rows<Span, 64>>(b',')?;
+        let environment = reader.field::<Rows<Variable, 128>>(b')')?;
+        Ok(Derivation {
             outputs,
             inputs,
             sources,
@@ -158,8 +121,7 @@ impl Part for Derivation {
             builder,
             arguments,
             environment,
-        };
-        Ok((value, next))
+        })
     }
 }
 
@@ -167,11 +129,11 @@ impl Part for Derivation {
 pub fn read(text: &[u8]) -> Result<Derivation, Fault>
     ensures { Judged text.now result }
 {
-    let inside = expect_word(text, b"Derive(")?;
-    let (file, end) = Derivation::rest(text, inside)?;
-    if end < text.len() {
+    let mut reader = Reader::after(text, b"Derive(")?;
+    let file = Derivation::rest(&mut reader)?;
+    if reader.at < text.len() {
         return Err(Fault {
-            place: end,
+            place: reader.at,
             cause: Cause::Byte,
         });
     }

@@ -4,11 +4,14 @@
 mod fault;
 mod file;
 mod law;
+mod meant;
 mod part;
+mod reader;
 mod rows;
 
 pub use fault::{Cause, Fault};
 pub use file::{Derivation, Input, Output, Variable, read};
 pub use law::every_text_is_judged;
+pub use meant::Meant;
 pub use part::Span;
 pub use rows::{Placed, Rows};

@@ -1,5 +1,6 @@
 // Tables of rows, each with its place in the text.
 ghost use Rattle.std.specs.Prelude.{◌≡◌, ◌+◌, ◌<◌, ◌≤◌, [], ◌∷◌, ◌++◌, take};
+ghost use Rattle.std.specs.List.{AllZip};
 
 use std::alloc::AllocError;
 
@@ -11,12 +12,14 @@ pub struct Placed<T> {
 }
 
 // At most N rows: the first `len` of `items`. The items after those are of no meaning.
+// A table of its own: the library crates use no heap, and an `ArrayVec` is not `Copy`, as a derivation is.
 pub struct Rows<T, const N: usize> {
     pub items: [Placed<T>; N],
     pub len: usize,
     ghost fits: { len ≤ N },
 }
 
+// By hand: `Clone` is not derived for a struct with a ghost field.
 impl<T: Copy, const N: usize> Clone for Rows<T, N> {
     ghost is_clone = { λ x y. y ≡ x };
 
@@ -28,6 +31,14 @@ impl<T: Copy, const N: usize> Clone for Rows<T, N> {
 }
 
 impl<T: Copy, const N: usize> Copy for Rows<T, N> {}
+
+impl<T: Copy + Default, const N: usize> Default for Rows<T, N> {
+    ghost is_default = { λ r. r.len ≡ 0 };
+
+    fn default() -> Rows<T, N> {
+        Rows::empty(T::default())
+    }
+}
 
 impl<T: Copy, const N: usize> Rows<T, N> {
     // No rows; `blank` fills the room.
@@ -53,8 +64,29 @@ impl<T: Copy, const N: usize> Rows<T, N> {
     pub fn as_slice(&self) -> &[Placed<T>]
         ensures { result.now ≡ take self.now.len self.now.items }
     {
-        let all = &self.items[..];
-        &all[0..self.len]
+        &self.items[..self.len]
+    }
+
+    // Changes each row, which keeps its place.
+    pub fn map<F: Fn(T) -> T>(self, change: F) -> Rows<T, N>
+        requires { F.IsAlwaysCallable change }
+        ensures len { result.len ≡ self.len }
+        ensures rows { AllZip (λ v w. (w.place ≡ v.place) × F.post change v.value w.value) (take self.len self.items) (take result.len result.items) }
+    {
+        // By number: after a loop over a loan of part of the table, nothing is known of the table.
+        let mut items = self.items;
+        for i in 0..self.len {
+            let row = items[i];
+            let value = change(row.value);
+            items[i] = Placed {
+                place: row.place,
+                value,
+            };
+        }
+        Rows {
+            items,
+            len: self.len,
+        }
     }
 
     // Adds a row; there is room for it.

@@ -1,53 +1,29 @@
 -- Rows that are arranged and then sorted mean what the tree means.
-use Rattle.std.proofs.Common.{◌≡◌, ℕ, zero, suc, ◌+◌, ◌<◌, ◌≤◌, cond, eqb, ◌⊎◌, List, [], ◌∷◌, map, length, get_or, take, set, sum_by, sym, refl, ap, ◌∙◌, subst, inl, inr, ⊎_elim, arith, length-set, get_or-set_other, get_or-set_same, eq-eqb, ne_eqb}
-use Rattle.std.proofs.lemmas.List.{get_or_read, get_or-map, map-set, length-map}
-use Rattle.std.specs.List.{swap, AllByRecursion}
+use Rattle.std.proofs.Common.{◌≡◌, ℕ, ◌≤◌, cond, List, [], ◌∷◌, map, sum_by, sym, refl, ap, ◌∙◌, subst, inl, inr, ⊎_elim, arith}
+use Rattle.std.specs.List.{AllByRecursion, AllZip}
 use Rattle.std.specs.List.Sorted.{IsPermutation}
 use Rattle.std.proofs.ByRecursion.{All-map, all_shuffled}
 use Rattle.std.proofs.lemmas.List.Sums.{sum_by-cons}
-use Rattle.std.proofs.lemmas.List.Sorted.{IsPermutation-refl, IsPermutation-sym, IsPermutation-trans, IsPermutation-swap, IsPermutation-keeps, sum_by-IsPermutation}
-use Rattle.std.proofs.lemmas.List.Edits.{swap_is}
-use Rattle.std.proofs.lemmas.Bool.{cond-true, cond-false, cases_eq}
+use Rattle.std.specs.Str.{bytes_eq}
+use Rattle.std.proofs.lemmas.Slice.Eq.{bytes_eq-Decides}
+use Rattle.std.proofs.lemmas.List.Sorted.{IsPermutation-map, IsPermutation-sym, sum_by-IsPermutation}
+use Rattle.std.proofs.lemmas.Bool.{cond-true, cond-false, cases_Bool}
 use Rattle.aterm.specs.Grammar.{Tree, Trees}
 use Rattle.canonical.specs.Order.{Along, Under, Member, Same, Rising, Level, Different}
 use Rattle.canonical.specs.Kinds.{Kind, text, entry, ordered, rising, Kinds, one, also, shape, shapes, Value, Values, key, tree_key, Means, MeansAll, Apart, AllApart, Tells, TellsAll, Arranges, ArrangesAll}
-use Rattle.canonical.proofs.Orders.{trichotomy}
+use Rattle.canonical.proofs.Orders.{trichotomy, same_or_not}
 use Rattle.canonical.proofs.Members.{member_all, all_from_member}
 use Rattle.canonical.proofs.Exist.{means_key, apart_each}
 
 -- 1 where two strings are equal
 abbrev eqs : List ℕ → List ℕ → ℕ
-eqs [] [] = 1
-eqs [] (y ∷ b) = 0
-eqs (x ∷ a) [] = 0
-eqs (x ∷ a) (y ∷ b) = cond (eqb x y) (eqs a b) 0
+eqs a b = cond (bytes_eq a b) 1 0
 
 eqs_same : (a b : List ℕ) → a ≡ b → eqs a b ≡ 1
-eqs_same a b e = subst (λ (v : List ℕ). eqs a v ≡ 1) e (self a)
-  where
-    self : (c : List ℕ) → eqs c c ≡ 1
-    self [] = refl
-    self (x ∷ c) = cond-true (eqb x x) (eqs c c) 0 (eq-eqb x x refl) ∙ self c
+eqs_same a b e = cond-true (bytes_eq a b) 1 0 ((bytes_eq-Decides a b).1 e)
 
 eqs_other : (a b : List ℕ) → (a ≡ b → ⊥) → eqs a b ≡ 0
-eqs_other [] [] n = absurd (n refl)
-eqs_other [] (y ∷ b) n = refl
-eqs_other (x ∷ a) [] n = refl
-eqs_other (x ∷ a) (y ∷ b) n =
-    ⊎_elim
-    (λ e. cond-true (eqb x y) (eqs a b) 0 (eq-eqb x y e) ∙ eqs_other a b (λ f. n (λ i. e i ∷ f i)))
-    (λ m. cond-false (eqb x y) (eqs a b) 0 (ne_eqb x y m))
-    (cases_eq x y)
-
-cases_same : (a b : List ℕ) → (a ≡ b) ⊎ (a ≡ b → ⊥)
-cases_same [] [] = inl refl
-cases_same [] (y ∷ b) = inr (λ e. let z : ◌≡◌ {A = ℕ} 0 1 = cc in omega arith)
-cases_same (x ∷ a) [] = inr (λ e. let z : ◌≡◌ {A = ℕ} 0 1 = cc in omega arith)
-cases_same (x ∷ a) (y ∷ b) =
-    ⊎_elim
-    (λ e. ⊎_elim (λ f. inl (λ i. e i ∷ f i)) (λ n. inr (λ f. n cc)) (cases_same a b))
-    (λ n. inr (λ f. n cc))
-    (cases_eq x y)
+eqs_other a b n = cond-false (bytes_eq a b) 1 0 (elim (cases_Bool (bytes_eq a b)) [ inl e ↦ absurd (n ((bytes_eq-Decides a b).0 e)) | inr e ↦ e ])
 
 module _ {X : Type 0} (key : X → List ℕ) where
   -- how many rows have the key
@@ -69,7 +45,7 @@ module _ {X : Type 0} (key : X → List ℕ) where
       ⊎_elim
       (λ e. let f = eqs_same s (key x) e in let h = many_none s xs (subst (λ (v : List ℕ). AllByRecursion (λ y. v ≡ key y → ⊥) xs) (sym e) d.0) in omega arith)
       (λ n. let f = eqs_other s (key x) n in let h = many_one s xs d.1 in omega arith)
-      (cases_same s (key x))
+      (same_or_not s (key x))
 
   many_some : (s : List ℕ) (xs : List X) (y : X) → Member y xs → s ≡ key y → 1 ≤ many s xs
   many_some s [] y m e = absurd m
@@ -99,32 +75,7 @@ module _ {X : Type 0} (key : X → List ℕ) where
   pub rises_sorted : (ws us : List X) → Different key ws → IsPermutation ws us → Level key us → Rising key us
   rises_sorted ws us d s l = rises us l (λ v. let a = many_one v ws d in let b = sum_by-IsPermutation (λ z. eqs v (key z)) ws us s in omega arith)
 
-hd : {X : Type 0} (xs : List X) → 0 < length xs → X
-hd [] h = absurd (omega arith)
-hd (x ∷ xs) h = x
-
 module _ {X Y : Type 0} (f : X → Y) where
-  -- two rows change places among what they map to as well
-  map_exchanged : (l : List X) (i j : ℕ) → i < length l → j < length l → map f (swap l i j) ≡ swap (map f l) i j
-  map_exchanged l i j p q =
-      let d : X = hd l (omega arith) in
-      let long = length-map l f in
-      let a = get_or l j d in
-      let b = get_or l i d in
-      ap (map f) (sym (swap_is l i j d p q))
-      ∙ map-set f (set l i a) j b
-      ∙ ap (λ (m : List Y). set m j (f b)) (map-set f l i a)
-      ∙ sym (ap (λ (y : Y). set (set (map f l) i y) j (get_or (map f l) i (f d))) (get_or-map f l j d (f d) q) ∙ ap (λ (y : Y). set (set (map f l) i (f a)) j y) (get_or-map f l i d (f d) p))
-      ∙ swap_is (map f l) i j (f d) (omega arith) (omega arith)
-
-  pub shuffled_map : (xs ys : List X) → IsPermutation xs ys → IsPermutation (map f xs) (map f ys)
-  shuffled_map xs ys s =
-      IsPermutation-keeps xs (λ l. IsPermutation (map f xs) (map f l)) (IsPermutation-refl (map f xs))
-      (λ l i j p q h.
-      let long = length-map l f in
-      IsPermutation-trans (map f xs) (map f l) (map f (swap l i j)) h (IsPermutation-swap (map f l) (map f (swap l i j)) i j (omega arith) (omega arith) (map_exchanged l i j p q)))
-      ys s
-
   module _ (key : Y → List ℕ) where
     level_map : (xs : List X) → Level (λ x. key (f x)) xs → Level key (map f xs)
     level_map [] r = tt
@@ -148,7 +99,14 @@ module _ (k : Kind) {X : Type 0} (f : X → Value k) where
   along_map (v ∷ vs) (w ∷ ws) e = (e.0, along_map vs ws e.1)
 
   pub arranged_rows : (n : ℕ) (vs ws us : List X) → Along Moves vs ws → IsPermutation ws us → Level (λ v. key k (f v)) us → Arranges (rising n k) (map f vs) (map f us)
-  arranged_rows n vs ws us e s l = (map f ws, (along_map vs ws e, (shuffled_map f ws us s, level_map f (key k) us l)))
+  arranged_rows n vs ws us e s l = (map f ws, (along_map vs ws e, (IsPermutation-map f ws us s, level_map f (key k) us l)))
+
+-- rows that lie beside each other
+pub along_zip : {X Y : Type 0} (R A : X → Y → Type 0) → ((x : X) (y : Y) → R x y → A x y) → (xs : List X) (ys : List Y) → AllZip R xs ys → Along A xs ys
+along_zip R A h [] [] z = tt
+along_zip R A h [] (y ∷ ys) z = absurd z
+along_zip R A h (x ∷ xs) [] z = absurd z
+along_zip R A h (x ∷ xs) (y ∷ ys) z = (h x y z.0, along_zip R A h xs ys z.1)
 
 pub along_same : (vs : List (List ℕ)) → Along (Arranges text) vs vs
 along_same [] = tt
@@ -180,35 +138,3 @@ mutual
   settles_all : (ks : Kinds) (t : Trees (shapes ks)) (v w : Values ks) → AllApart ks t → TellsAll ks t v → ArrangesAll ks v w → MeansAll ks t w
   settles_all (one k) t v w a p q = settles k t v w a p q
   settles_all (also k ks) t v w a p q = (settles k t.0 v.0 w.0 a.0 p.0 q.0, settles_all ks t.1 v.1 w.1 a.1 p.1 q.1)
-
--- the first i rows are done, the others are as they were
-pub record Partway {X : Type 0} (A : X → X → Type 0) (xs ys : List X) (i : ℕ) : Type 0 where
-  pub long : length ys ≡ length xs
-  pub done : (k : ℕ) (d : X) → k < i → A (get_or xs k d) (get_or ys k d)
-  pub left : (k : ℕ) (d : X) → i ≤ k → get_or ys k d ≡ get_or xs k d
-
-each_first : {X : Type 0} (A : X → X → Type 0) (n : ℕ) (xs ys : List X) → length ys ≡ length xs → ((k : ℕ) (d : X) → k < n → A (get_or xs k d) (get_or ys k d)) → Along A (take n xs) (take n ys)
-each_first A zero xs ys l p = tt
-each_first A (suc n) [] [] l p = tt
-each_first A (suc n) [] (y ∷ ys) l p = absurd (omega arith)
-each_first A (suc n) (x ∷ xs) [] l p = absurd (omega arith)
-each_first A (suc n) (x ∷ xs) (y ∷ ys) l p = (p 0 x (omega arith), each_first A n xs ys (omega arith) (λ k d i. p (suc k) d (omega arith)))
-
-module _ {X : Type 0} (A : X → X → Type 0) (xs ys : List X) (i : ℕ) (pw : Partway A xs ys i) where
-  pub partway_first : (n : ℕ) → n ≤ i → Along A (take n xs) (take n ys)
-  partway_first n h = each_first A n xs ys pw.long (λ k d l. pw.done k d (omega arith))
-
-  pub partway_more : i < length ys → (x r : X) → x ≡ get_or ys i x → A x r → Partway A xs (set ys i r) (i + 1)
-  partway_more h x r e a = record {
-    long = length-set ys i r ∙ pw.long;
-    done = λ k d l. ⊎_elim (at k d) (λ n. subst (A (get_or xs k d)) (sym (get_or-set_other ys i k r d n)) (pw.done k d (⊎_elim (λ q. absurd (n q)) (λ q. omega arith) (cases_eq k i)))) (cases_eq k i);
-    left = λ k d l. get_or-set_other ys i k r d (λ q. omega arith) ∙ pw.left k d (omega arith);
-  }
-    where
-      here : (d : X) → A (get_or xs i d) (get_or (set ys i r) i d)
-      here d =
-          subst (A (get_or xs i d)) (sym (get_or-set_same ys i r d h))
-          (subst (λ (z : X). A z r) (get_or_read ys i x h e d ∙ pw.left i d (omega arith)) a)
-
-      at : (k : ℕ) (d : X) → k ≡ i → A (get_or xs k d) (get_or (set ys i r) k d)
-      at k d q = subst (λ (m : ℕ). A (get_or xs m d) (get_or (set ys i r) m d)) (sym q) (here d)

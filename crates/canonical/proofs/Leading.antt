@@ -1,7 +1,7 @@
 -- A loop that writes what is left of a text.
-use Rattle.std.proofs.Common.{◌≡◌, ℕ, ◌-◌, ◌<◌, true, List, [], ◌∷◌, ◌++◌, map, length, get_or, take, drop, is_err, Ok, Err, Result, sym, refl, ap, ◌∙◌, append_assoc, arith}
+use Rattle.std.proofs.Common.{◌≡◌, ℕ, true, List, [], ◌∷◌, ◌++◌, map, is_err, Some, None, Option, Ok, Err, Result, sym, refl, ap, ◌∙◌, append_assoc}
+use Rattle.std.specs.Iterator.{AlwaysYields}
 use Rattle.std.specs.List.{flat_map}
-use Rattle.std.proofs.lemmas.List.{take_all}
 use Rattle.sink.specs.Write.{Step, Held, Writes, Leads}
 use Rattle.canonical.specs.Strings.{escaped}
 use Rattle.sink.proofs.Writing.{then, stop, as_text}
@@ -24,6 +24,16 @@ spelt v = flat_map escaped v ++ (34 ∷ [])
 pub spelt_more : {v w : List ℕ} (x : ℕ) → v ≡ x ∷ w → spelt v ≡ escaped x ++ spelt w
 spelt_more {v} {w} x e = ap spelt e ∙ append_assoc (escaped x) (flat_map escaped w) (34 ∷ [])
 
+-- an iterator that gives ys gave one of its bytes, or has ended
+module _ {S : Type 0} (steps : S → Option ℕ → S → Type 0) (s t : S) where
+  pub one_came : (x : ℕ) (ys : List ℕ) → AlwaysYields steps (λ b. b) s ys → steps s (Some x) t → (rest : List ℕ) × (ys ≡ x ∷ rest) × AlwaysYields steps (λ b. b) t rest
+  one_came x [] a h = absurd (a x t h)
+  one_came x (y ∷ ys) a h = let m = a.1 x t h in (ys, ap (λ (n : ℕ). n ∷ ys) (sym m.0), m.1)
+
+  pub none_came : (ys : List ℕ) → AlwaysYields steps (λ b. b) s ys → steps s None t → ys ≡ []
+  none_came [] a h = refl
+  none_came (y ∷ ys) a h = absurd (a.0 t h)
+
 -- rows, by what each writes
 module _ {X Y : Type 0} (g : Y → List ℕ) (f : X → Y) where
   abbrev pub through : X → List ℕ
@@ -33,15 +43,6 @@ module _ {X Y : Type 0} (g : Y → List ℕ) (f : X → Y) where
   joined_map [] = refl
   joined_map (x ∷ xs) = ap (λ (v : List ℕ). comma through x ++ v) (joined_map xs)
 
-  pub listing_none : (xs : List X) → length xs < 1 → 91 ∷ 93 ∷ [] ≡ listing g (map f xs)
-  listing_none [] h = refl
-  listing_none (x ∷ xs) h = absurd (omega arith)
-
-  pub listing_some : (xs : List X) (y : X) → y ≡ get_or xs 0 y → 0 < length xs
-      → (91 ∷ []) ++ (through y ++ (flat_map (comma through) (take (length xs - 1) (drop 1 xs)) ++ (93 ∷ []))) ≡ listing g (map f xs)
-  listing_some [] y e h = absurd (omega arith)
-  listing_some (x ∷ xs) y e h =
-      let rest : take (length (x ∷ xs) - 1) (drop 1 (x ∷ xs)) ≡ xs = take_all _ xs (omega arith) in
-      ap (λ (v : X). 91 ∷ (through v ++ (flat_map (comma through) (take (length (x ∷ xs) - 1) (drop 1 (x ∷ xs))) ++ (93 ∷ [])))) e
-      ∙ ap (λ (v : List X). 91 ∷ (through x ++ (flat_map (comma through) v ++ (93 ∷ [])))) rest
-      ∙ ap (λ (v : List ℕ). 91 ∷ (through x ++ (v ++ (93 ∷ [])))) (joined_map xs)
+  pub listing_some : (xs ys : List X) (y : X) → xs ≡ y ∷ ys → (91 ∷ []) ++ (through y ++ (flat_map (comma through) ys ++ (93 ∷ []))) ≡ listing g (map f xs)
+  listing_some xs ys y e =
+      ap (λ (v : List ℕ). 91 ∷ (through y ++ (v ++ (93 ∷ [])))) (joined_map ys) ∙ ap (λ (l : List X). listing g (map f l)) (sym e)

@@ -1,4 +1,3 @@
-pub mod Decoding
 pub mod Leading
 pub mod Orders
 pub mod Sorting

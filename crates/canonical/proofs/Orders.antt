@@ -1,7 +1,12 @@
 -- Byte order is a strict order, and total.
-use Rattle.std.proofs.Common.{◌≡◌, ℕ, ◌+◌, ◌<◌, ◌≤◌, ◌⊎◌, List, [], ◌∷◌, length, get_or, drop, Ordering, Less, Equal, Greater, sym, refl, ◌∙◌, subst, inl, inr, ⊎_elim, arith}
-use Rattle.std.proofs.lemmas.List.{drop_more, drop_all}
-use Rattle.std.proofs.lemmas.Bool.{cases_order}
+use Rattle.std.proofs.Common.{◌≡◌, ℕ, ◌<◌, ◌⊎◌, List, [], ◌∷◌, true, Ordering, Less, Equal, Greater, sym, refl, ap, ◌∙◌, subst, inl, inr, ⊎_elim, arith}
+use mathlib.Core.Bool.{false≢true}
+use Rattle.std.specs.Cmp.Lexicographic.{slice_cmp}
+use Rattle.std.specs.Ordering.{MatchOrdering, ordering_then, nat_cmp, is_lt}
+use Rattle.std.specs.Str.{bytes_eq}
+use Rattle.std.proofs.lemmas.Bool.{cases_order, cases_Bool}
+use Rattle.std.proofs.lemmas.Slice.Eq.{bytes_eq-Decides}
+use Rattle.std.proofs.lemmas.Cmp.{ranked}
 use Rattle.canonical.specs.Order.{Under, Compared}
 
 pub under_not_self : (a : List ℕ) → Under a a → ⊥
@@ -30,45 +35,54 @@ trichotomy (x ∷ a) (y ∷ b) =
     (λ r. ⊎_elim (λ l. inl (inl l)) (λ g. inr (inr (inl g))) r)
     (cases_order x y)
 
+pub same_or_not : (a b : List ℕ) → (a ≡ b) ⊎ (a ≡ b → ⊥)
+same_or_not a b = elim (cases_Bool (bytes_eq a b)) [
+  | inl e ↦ inl ((bytes_eq-Decides a b).0 e)
+  | inr n ↦ inr (λ e. false≢true (sym n ∙ (bytes_eq-Decides a b).1 e))
+]
+
 -- what is not before b is not before what stands at b or later
 pub not_under_trans : (a b c : List ℕ) → (Under b a → ⊥) → (Under c b → ⊥) → Under c a → ⊥
 not_under_trans a b c h k u =
     ⊎_elim (λ ab. k (under_trans c a b u ab)) (λ r. ⊎_elim (λ e. k (subst (Under c) e u)) h r) (trichotomy a b)
 
--- to compare what is left is to compare the whole
-pub record Left (a b c d : List ℕ) : Type 0 where
-  pub on : (o : Ordering) → Compared c d o → Compared a b o
+-- the order that std computes
+then_compared : (x y : ℕ) (a b : List ℕ) (r s : Ordering) → MatchOrdering r (x < y) (x ≡ y) (y < x) → Compared a b s → Compared (x ∷ a) (y ∷ b) (ordering_then r s)
+then_compared x y a b Less s h k = inl h
+then_compared x y a b Equal Less h k = inr (h, k)
+then_compared x y a b Equal Equal h k = cc
+then_compared x y a b Equal Greater h k = inr (sym h, k)
+then_compared x y a b Greater s h k = inl h
 
-pub left_same : {a b c d : List ℕ} → a ≡ c → b ≡ d → Left a b c d
-left_same {a} {b} {c} {d} p q = record { on = λ o h. subst (λ (x : List ℕ). Compared x b o) (sym p) (subst (λ (y : List ℕ). Compared c y o) (sym q) h) }
+pub compared : (a b : List ℕ) → Compared a b (slice_cmp nat_cmp a b)
+compared [] [] = refl
+compared [] (y ∷ b) = tt
+compared (x ∷ a) [] = tt
+compared (x ∷ a) (y ∷ b) = then_compared x y a b (nat_cmp x y) (slice_cmp nat_cmp a b) (ranked x y (nat_cmp x y) refl) (compared a b)
 
-pub left_more : {a b c d c' d' : List ℕ} (x y : ℕ) → Left a b c d → c ≡ x ∷ c' → d ≡ y ∷ d' → x ≡ y → Left a b c' d'
-left_more {a} {b} {c} {d} {c'} {d'} x y l p q e = record { on = λ o h. l.on o ((left_same p q).on o (up o h)) }
-  where
-    up : (o : Ordering) → Compared c' d' o → Compared (x ∷ c') (y ∷ d') o
-    up Less h = inr (e, h)
-    up Equal h = λ i. e i ∷ h i
-    up Greater h = inr (sym e, h)
+-- strings have one order
+same_order : (a b : List ℕ) (r s : Ordering) → Compared a b r → Compared a b s → r ≡ s
+same_order a b Less Less h k = refl
+same_order a b Less Equal h k = absurd (under_not_self b (subst (λ (x : List ℕ). Under x b) k h))
+same_order a b Less Greater h k = absurd (under_not_self a (under_trans a b a h k))
+same_order a b Equal Less h k = absurd (under_not_self b (subst (λ (x : List ℕ). Under x b) h k))
+same_order a b Equal Equal h k = refl
+same_order a b Equal Greater h k = absurd (under_not_self b (subst (Under b) h k))
+same_order a b Greater Less h k = absurd (under_not_self a (under_trans a b a k h))
+same_order a b Greater Equal h k = absurd (under_not_self b (subst (Under b) k h))
+same_order a b Greater Greater h k = refl
 
--- the turns and the ends of a comparison by index
-module _ (a b : List ℕ) (i : ℕ) (l : Left a b (drop i a) (drop i b)) where
-  both : i < length a → i < length b → (o : Ordering) → Compared (get_or a i 0 ∷ drop (i + 1) a) (get_or b i 0 ∷ drop (i + 1) b) o → Compared a b o
-  both h k o c = l.on o ((left_same (drop_more a i 0 h) (drop_more b i 0 k)).on o c)
+pub compared_is : (a b : List ℕ) (r : Ordering) → Compared a b r → r ≡ slice_cmp nat_cmp a b
+compared_is a b r h = same_order a b r (slice_cmp nat_cmp a b) h (compared a b)
 
-  pub bytes_less : i < length a → i < length b → get_or a i 0 < get_or b i 0 → Under a b
-  bytes_less h k x = both h k Less (inl x)
+-- the order as a test
+less_so : (a b : List ℕ) (o : Ordering) → Compared a b o → is_lt o ≡ true → Under a b
+less_so a b Less h e = h
+less_so a b Equal h e = absurd (false≢true e)
+less_so a b Greater h e = absurd (false≢true e)
 
-  pub bytes_greater : i < length a → i < length b → get_or b i 0 < get_or a i 0 → Under b a
-  bytes_greater h k x = both h k Greater (inl x)
+pub under_from_less : (a b : List ℕ) → is_lt (slice_cmp nat_cmp a b) ≡ true → Under a b
+under_from_less a b = less_so a b (slice_cmp nat_cmp a b) (compared a b)
 
-  pub bytes_more : i < length a → i < length b → get_or a i 0 ≡ get_or b i 0 → Left a b (drop (i + 1) a) (drop (i + 1) b)
-  bytes_more h k e = left_more (get_or a i 0) (get_or b i 0) l (drop_more a i 0 h) (drop_more b i 0 k) e
-
-  pub bytes_short : length a ≤ i → i < length b → Under a b
-  bytes_short h k = l.on Less ((left_same (drop_all i a h) (drop_more b i 0 k)).on Less tt)
-
-  pub bytes_long : i < length a → length b ≤ i → Under b a
-  bytes_long h k = l.on Greater ((left_same (drop_more a i 0 h) (drop_all i b k)).on Greater tt)
-
-  pub bytes_same : length a ≤ i → length b ≤ i → a ≡ b
-  bytes_same h k = l.on Equal (drop_all i a h ∙ sym (drop_all i b k))
+pub less_from_under : (a b : List ℕ) → Under a b → is_lt (slice_cmp nat_cmp a b) ≡ true
+less_from_under a b u = ap is_lt (sym (compared_is a b Less u))

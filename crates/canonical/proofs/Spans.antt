@@ -1,30 +1,23 @@
 -- What a derivation holds of a text says what the tree says.
-use Rattle.std.proofs.Common.{◌≡◌, ℕ, ◌+◌, true, false, eqb, List, [], ◌∷◌, take, refl, ap, ◌∙◌, ne_eqb}
-use Rattle.std.proofs.lemmas.Bool.{cond-false}
+use Rattle.std.proofs.Common.{◌≡◌, ℕ, ◌+◌, false, List, [], ◌∷◌, take, ap, ◌∙◌}
 use Rattle.aterm.specs.declared.part.Span.{Span}
 use Rattle.aterm.specs.declared.rows.Placed.{Placed}
 use Rattle.aterm.specs.declared.file.Output.{Output}
 use Rattle.aterm.specs.declared.file.Input.{Input}
 use Rattle.aterm.specs.declared.file.Variable.{Variable}
 use Rattle.aterm.specs.declared.file.Derivation.{Derivation}
-use Rattle.aterm.specs.Grammar.{Char, plain, escaped, escape, raw, meaning, Tree}
+use Rattle.aterm.specs.Grammar.{Char, meaning, Tree}
 use Rattle.aterm.specs.Reads.{Each, past}
 use Rattle.aterm.specs.Files.{output, input, variable, derivation, span, in_output, in_input, in_variable, in_derivation}
-use Rattle.aterm.proofs.Free.{not_slash}
-use Rattle.canonical.specs.Decode.{decodes}
+use Rattle.aterm.specs.Meaning.{meant}
+use Rattle.aterm.proofs.Meaning.{meant_raw}
 use Rattle.canonical.specs.Order.{Along}
 use Rattle.canonical.specs.Kinds.{Kind, text, shape, Value, Tells}
 use Rattle.canonical.specs.Meanings.{an_output, an_input, a_variable, a_derivation}
 use Rattle.canonical.specs.Files.{said_in, values, output_value, input_value, variable_value, derivation_value}
 
-pub decodes_raw : (cs : List Char) → decodes false (raw cs) ≡ meaning cs
-decodes_raw [] = refl
-decodes_raw (plain c o ∷ cs) =
-    cond-false (eqb c 92) (decodes true (raw cs)) (c ∷ decodes false (raw cs)) (ne_eqb c 92 (not_slash c o)) ∙ ap (λ (l : List ℕ). c ∷ l) (decodes_raw cs)
-decodes_raw (escaped c ∷ cs) = ap (λ (l : List ℕ). escape c ∷ l) (decodes_raw cs)
-
 pub span_means : (t : List ℕ) (at : ℕ) (v : Span) (cs : List Char) → span t v at cs → said_in t v ≡ meaning cs
-span_means t at v cs h = ap (decodes false) h.cut ∙ decodes_raw cs
+span_means t at v cs h = ap (meant false) h.cut ∙ meant_raw cs
 
 pub each_tells : {V : Type 0} (k : Kind) (H : ℕ → V → Tree (shape k) → Type 0) (f : V → Value k) → ((at : ℕ) (v : V) (x : Tree (shape k)) → H at v x → Tells k x (f v))
     → (vs : List (Placed V)) (xs : List (Tree (shape k))) (at : ℕ) → Each (shape k) H at vs xs → Along (Tells k) xs (values f vs)

@@ -1,6 +1,6 @@
 -- Where two texts first differ, and what a sink means that compares a text with what is written to it.
 -- Source: this project's own rule (docs/FORMATS.md).
-use Rattle.std.specs.Prelude.{◌≡◌, ℕ, zero, suc, ◌+◌, ◌-◌, ◌%◌, ◌^◌, ◌<◌, Bool, true, false, cond, List, [], ◌∷◌, ◌++◌, length, drop, Some, None, Option, ◌==◌}
+use Rattle.std.specs.Prelude.{◌≡◌, ℕ, zero, suc, ◌+◌, ◌-◌, ◌%◌, ◌^◌, ◌<◌, cond, List, [], ◌∷◌, ◌++◌, length, drop, Some, None, Ok, Err, Option, Result, ◌==◌}
 use Rattle.std.proofs.Common.{arith}
 use Rattle.sink.specs.Write.{Step, Held}
 
@@ -34,20 +34,18 @@ comparing (zero ∷ n ∷ []) b = 1 ∷ n ∷ []
 comparing (zero ∷ n ∷ x ∷ xs) b = cond (x == b) (0 ∷ (n + 1) ∷ xs) (1 ∷ n ∷ x ∷ xs)
 comparing (suc f ∷ n ∷ xs) b = suc f ∷ n ∷ xs
 
-abbrev pub flag : Bool → ℕ
-flag true = 0
-flag false = 1
-
-abbrev pub progress : List ℕ → ℕ → Bool → List ℕ
-progress t at same = flag same ∷ at ∷ drop at t
+-- where the text goes on while all is the same, or the first place where it is not
+abbrev pub progress : List ℕ → Result ℕ ℕ → List ℕ
+progress t (Ok at) = 0 ∷ at ∷ drop at t
+progress t (Err at) = 1 ∷ at ∷ drop at t
 
 -- a sink that has compared so many bytes; it takes as many as a count of 128 bits holds
-abbrev pub compared : List ℕ → ℕ → Bool → ℕ → Held
-compared t at same count = record {
-  meaning = record { state = progress t at same; remaining = 2 ^ 128 - 1 - count; total = count % (2 ^ 64) };
+abbrev pub compared : List ℕ → Result ℕ ℕ → ℕ → Held
+compared t at count = record {
+  meaning = record { state = progress t at; remaining = 2 ^ 128 - 1 - count; total = count % (2 ^ 64) };
   space = [];
   loan = 0;
 }
 
-pub compared_wraps : (t : List ℕ) (at : ℕ) (same : Bool) (count : ℕ) → (compared t at same count).meaning.total < 2 ^ 64
-compared_wraps t at same count = omega arith
+pub compared_wraps : (t : List ℕ) (at : Result ℕ ℕ) (count : ℕ) → (compared t at count).meaning.total < 2 ^ 64
+compared_wraps t at count = omega arith

@@ -1,6 +1,6 @@
 -- Byte order of strings, and lists that rise by a key.
 -- Source: this project's own rule (docs/FORMATS.md): rows are sorted by what their keys mean, byte by byte, a prefix first.
-use Rattle.std.specs.Prelude.{◌≡◌, ℕ, ◌<◌, ◌⊎◌, List, [], ◌∷◌, ◌≢◌, slice_index_or}
+use Rattle.std.specs.Prelude.{◌≡◌, ℕ, ◌<◌, ◌⊎◌, List, [], ◌∷◌, ◌≢◌}
 use Rattle.std.specs.declared.cmp.Ordering.{Ordering}
 use Rattle.std.specs.List.{AllByRecursion}
 use Rattle.std.specs.Ordering.{MatchOrdering}
@@ -45,7 +45,3 @@ Different key (x ∷ xs) = AllByRecursion (λ y. key x ≢ key y) xs × Differen
 -- o is the order of two strings
 abbrev pub Compared : List ℕ → List ℕ → Ordering → Type 0
 Compared a b o = MatchOrdering o (Under a b) (a ≡ b) (Under b a)
-
--- the first n rows have no later key before an earlier one
-abbrev pub Upto : {X : Type 0} → (X → List ℕ) → ℕ → List X → Type 0
-Upto {X} key n xs = (a b : ℕ) (d : X) → a < b → b < n → Under (key (slice_index_or xs b d)) (key (slice_index_or xs a d)) → ⊥

@@ -1,5 +1,5 @@
 // A sink that compares what is written with a text, and the first place where a text differs from its canonical text.
-ghost use Rattle.std.specs.Prelude.{◌≡◌, ℕ, true, List};
+ghost use Rattle.std.specs.Prelude.{◌≡◌, ℕ, List, Ok, Result};
 ghost use Rattle.aterm.specs.Grammar.{Tree, signs};
 ghost use Rattle.aterm.specs.Files.{derivation, whole, in_derivation};
 ghost use Rattle.sink.specs.Write.{steps};
@@ -14,67 +14,56 @@ use sink::{Full, Sink};
 #[derive(Clone, Copy)]
 pub struct Comparer<'a> {
     text: &'a [u8],
-    at: usize,
-    same: bool,
+    // Where the text goes on while all is the same, or the first place where it is not.
+    at: Result<usize, usize>,
     count: u128,
 }
 
-// One byte more: the number of bytes that are the same, and whether all were.
-fn advance(text: &[u8], at: usize, same: bool, b: u8) -> (usize, bool)
-    ensures { progress text.now result.0 result.1 ≡ comparing (progress text.now at same) b }
+// After one more byte.
+fn advance(text: &[u8], at: usize, b: u8) -> Result<usize, usize>
+    ensures { progress text.now result ≡ comparing (progress text.now (Ok at)) b }
 {
-    if !same {
-        return (at, false);
+    if text.get(at) == Some(&b) {
+        Ok(at + 1)
+    } else {
+        Err(at)
     }
-    if at >= text.len() {
-        return (at, false);
-    }
-    if text[at] != b {
-        return (at, false);
-    }
-    (at + 1, true)
 }
 
-// The same for each byte of a string.
-fn advance_all(text: &[u8], at: usize, same: bool, bytes: &[u8]) -> (usize, bool)
-    ensures { progress text.now result.0 result.1 ≡ steps comparing (progress text.now at same) bytes.now }
+// After each byte of a string.
+fn advance_all(text: &[u8], from: Result<usize, usize>, bytes: &[u8]) -> Result<usize, usize>
+    ensures { progress text.now result ≡ steps comparing (progress text.now from) bytes.now }
 {
-    let mut state = (at, same);
+    let mut at = from?;
     for b in bytes {
-        state = advance(text, state.0, state.1, *b);
+        at = advance(text, at, *b)?;
     }
-    state
+    Ok(at)
 }
 
 impl<'a> Sink for Comparer<'a> {
     ghost step = { comparing };
 
-    ghost held = { λ s. compared s.text.now s.at s.same s.count };
+    ghost held = { λ s. compared s.text.now s.at s.count };
 
-    ghost wraps = { λ s. compared_wraps s.text.now s.at s.same s.count };
+    ghost wraps = { λ s. compared_wraps s.text.now s.at s.count };
 
     fn write(&mut self, bytes: &[u8]) -> Result<(), Full> {
-        match self.count.checked_add(bytes.len() as u128) {
-            Some(count) => {
-                let (at, same) = advance_all(self.text, self.at, self.same, bytes);
-                self.at = at;
-                self.same = same;
-                self.count = count;
-                Ok(())
-            }
-            None => Err(Full),
-        }
+        let count = self.count.checked_add(bytes.len() as u128).ok_or(Full)?;
+        self.count = count;
+        self.at = advance_all(self.text, self.at, bytes);
+        Ok(())
     }
 }
 
 // The first place where the text differs from all that was written.
-fn verdict(text: &[u8], at: usize, same: bool) -> Option<usize>
-    ensures { (other bytes : List ℕ) → progress other at same ≡ steps comparing (progress text.now 0 true) bytes → FirstDifference text.now bytes result }
+fn difference(text: &[u8], at: Result<usize, usize>) -> Option<usize>
+    ensures { (other bytes : List ℕ) → progress other at ≡ steps comparing (progress text.now (Ok 0)) bytes → FirstDifference text.now bytes result }
 {
-    if !same {
-        return Some(at);
+    match at {
+        Ok(end) => (end < text.len()).then_some(end),
+        Err(place) => Some(place),
     }
-    if at == text.len() { None } else { Some(at) }
 }
 
 // The first place where a text differs from the canonical text of what it means; none where it is canonical.
@@ -83,12 +72,12 @@ pub fn first_difference(text: &[u8], file: Derivation) -> Option<usize>
 {
     let mut comparer = Comparer {
         text,
-        at: 0,
-        same: true,
+        at: Ok(0),
         count: 0,
     };
     match write_canonical(text, file, &mut comparer) {
-        Ok(()) => verdict(text, comparer.at, comparer.same),
+        Ok(()) => difference(text, comparer.at),
+        // No canonical text is so long.
         Err(_) => None,
     }
 }

@@ -15,4 +15,4 @@ pub use laws::{
     meaning_exists, meaning_is_unique, needless_escape_is_dropped,
 };
 pub use row::{Canon, write_after, write_rows};
-pub use string::{compare, compare_bytes, next, write_span, write_string};
+pub use string::{compare, write_span, write_string};

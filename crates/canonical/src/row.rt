@@ -3,7 +3,8 @@ ghost use Rattle.std.specs.Prelude.{◌≡◌, ℕ, ◌≤◌, List, [], ◌∷�
 ghost use Rattle.std.specs.List.{flat_map};
 ghost use Rattle.sink.specs.Write.{Writes};
 ghost use Rattle.canonical.specs.Decode.{said};
-ghost use Rattle.canonical.specs.Order.{Compared};
+ghost use Rattle.std.specs.List.Sorted.{IsPermutation};
+ghost use Rattle.canonical.specs.Order.{Compared, Level};
 ghost use Rattle.canonical.specs.Kinds.{Kind, text as string_kind, rising, Value, key, canon, comma, listing, Arranges};
 
 use crate::sort::sort_rows;
@@ -27,6 +28,7 @@ pub trait Canon: Copy {
         ensures { Arranges kind (value text.now self) (value text.now result) };
 
     // Writes the rows in the order in which the value has them.
+    // Text and sink stay two parameters here and above: they are lent by two owners, and a struct of both would be made anew at each column.
     fn write_text<S: Sink>(&self, text: &[u8], sink: &mut S) -> Result<(), Full>
         ensures { Writes S.Sink.step (S.Sink.held sink.old) (canon kind (value text.now self.now)) result (S.Sink.held sink.new) };
 }
@@ -98,25 +100,24 @@ fn write_rests<T: Canon, S: Sink>(text: &[u8], rows: &[T], sink: &mut S) -> Resu
 pub fn write_rows<T: Canon, S: Sink>(text: &[u8], rows: &[T], sink: &mut S) -> Result<(), Full>
     ensures { Writes S.Sink.step (S.Sink.held sink.old) (listing (canon T.Canon.kind) (map (T.Canon.value text.now) rows.now)) result (S.Sink.held sink.new) }
 {
-    if rows.len() == 0 {
-        return sink.write(b"[]");
+    match rows.split_first() {
+        None => sink.write(b"[]"),
+        Some((first, rest)) => {
+            sink.write(b"[")?;
+            first.write_text(text, sink)?;
+            write_rests(text, rest, sink)?;
+            sink.write(b"]")
+        }
     }
-    sink.write(b"[")?;
-    rows[0].write_text(text, sink)?;
-    write_rests(text, &rows[1..], sink)?;
-    sink.write(b"]")
 }
 
-// Arranges each of the first rows, and sorts them.
-fn arrange<T: Canon, const N: usize>(text: &[u8], rows: &mut [T; N], count: usize)
+// Sorts the first rows of an array.
+fn sort_first<T: Canon, const N: usize>(text: &[u8], rows: &mut [T; N], count: usize)
     requires { count ≤ N }
-    ensures { (n : ℕ) → Arranges (rising n T.Canon.kind) (map (T.Canon.value text.now) (take count rows.old)) (map (T.Canon.value text.now) (take count rows.new)) }
+    ensures shuffled { IsPermutation (take count rows.old) (take count rows.new) }
+    ensures level { Level (λ v. key T.kind (T.value text.now v)) (take count rows.new) }
 {
-    for i in 0..count {
-        let row = rows[i];
-        rows[i] = row.arranged(text);
-    }
-    sort_rows(text, rows, count);
+    sort_rows(text, &mut rows[..count]);
 }
 
 impl<T: Canon, const N: usize> Canon for Rows<T, N> {
@@ -129,11 +130,12 @@ impl<T: Canon, const N: usize> Canon for Rows<T, N> {
     }
 
     fn arranged(self, text: &[u8]) -> Rows<T, N> {
-        let mut items = self.items;
-        arrange(text, &mut items, self.len);
+        let arranged = self.map(|row| row.arranged(text));
+        let mut items = arranged.items;
+        sort_first(text, &mut items, arranged.len);
         Rows {
             items,
-            len: self.len,
+            len: arranged.len,
         }
     }
 

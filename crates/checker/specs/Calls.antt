@@ -13,9 +13,7 @@ use Rattle.sink.specs.Digest.{digest}
 use Rattle.sink.specs.Write.{Step}
 use Rattle.sink.specs.Write as sinks
 use Rattle.verdict.specs.Judged.{Judged}
-use Rattle.verdict.specs.Verdicts.{verdict_details}
-use Rattle.verdict.specs.declared.fault.Verdict.{Verdict}
-use Rattle.verdict.specs.declared.fault.Verdict.TheVariants.{Accepted, Refused}
+use Rattle.verdict.specs.Verdicts.{Verdict, verdict_details}
 use Rattle.checker.specs.Refusals.{Ask, Done}
 use Rattle.checker.specs.Views.{View, Open, files, path_at, Exists, PendingAt, TakenAt, HashedAt, ReadyFile, Changes, told}
 use Rattle.checker.specs.declared.refused.CallRefusal.{CallRefusal}
@@ -123,7 +121,7 @@ Lines v k out (Err e) after = Ask (Open v) NotOpened (Ask (Exists v k) NoFile (A
 abbrev pub one_accepted : State → ℕ
 one_accepted Pending = 0
 one_accepted Taken = 0
-one_accepted (Settled s) = elim s.verdict [ Accepted ↦ 1 | Refused f ↦ 0 ]
+one_accepted (Settled s) = elim s.verdict [ Ok u ↦ 1 | Err f ↦ 0 ]
 
 -- how many of the first n files are accepted
 abbrev pub accepted : (ℕ → State) → ℕ → ℕ

@@ -2,7 +2,7 @@
 -- Source: this project's own rule (docs/CALLS.md, "Runs").
 use Rattle.std.specs.Prelude.{◌≡◌, ℕ, ◌+◌, List, [], ◌∷◌, ◌++◌, take, drop, Option, Result}
 use Rattle.sink.specs.Write as sinks
-use Rattle.verdict.specs.declared.fault.Verdict.{Verdict}
+use Rattle.verdict.specs.Verdicts.{Verdict}
 use Rattle.checker.specs.Calls.{Kind, Takes, Settles, PutsBack, Tells, Lines, Tails, Rewrites, Paths, Circles}
 use Rattle.checker.specs.Views.{View}
 use Rattle.checker.specs.declared.refused.CallRefusal.{CallRefusal}

@@ -1,28 +1,49 @@
 -- What the code's checker stands for, and what is kept right in it whatever the digest.
 -- Source: this project's own rule (docs/CALLS.md, "Calls").
-use Rattle.std.specs.Prelude.{◌≡◌, ℕ, true, Ok, Err, Result}
+use Rattle.std.specs.Prelude.{◌≡◌, ℕ, true, false, [], ◌∷◌, Some, None, Option, Ok, Err, Result}
 use Rattle.image.specs.Files.{bytes_of, files_of}
 use Rattle.image.specs.Opening.{Opens}
 use Rattle.links.specs.Linked.{AllLinked}
 use Rattle.checker.specs.Rows.{row_at}
 use Rattle.checker.specs.Views.{View}
 use Rattle.checker.specs.declared.checker.Checker.{Checker}
+use Rattle.checker.specs.declared.checker.OpenSet.{OpenSet}
 use Rattle.checker.specs.declared.checker.Visit.{Visit}
 use Rattle.checker.specs.declared.refused.CallRefusal.{CallRefusal}
+use Rattle.checker.specs.declared.state.State.TheVariants.{Pending}
+
+-- a set that is opened
+abbrev pub view_in : OpenSet → View
+view_in s = record { opened = true; image = bytes_of s.image; count = files_of s.image; row = row_at s.states }
+
+-- before a set is opened there are no files
+abbrev pub view_none : View
+view_none = record { opened = false; image = 0 ∷ 0 ∷ 0 ∷ 0 ∷ []; count = 0; row = λ k. Pending }
+
+abbrev pub view_if : Option OpenSet → View
+view_if None = view_none
+view_if (Some s) = view_in s
 
 abbrev pub view_of : Checker → View
-view_of c = record { opened = c.opened; image = bytes_of c.image; count = files_of c.image; row = row_at c.states }
+view_of c = view_if c.opened
 
 -- an opened set: its image opens, and the links are those of its files
-pub record Kept (c : Checker) : Type 0 where
-  pub opens : c.opened ≡ true → Opens (bytes_of c.image) (files_of c.image)
-  pub linked : c.opened ≡ true → AllLinked (bytes_of c.image) (files_of c.image) c.links
+abbrev pub KeptIn : Option OpenSet → Type 0
+KeptIn None = Unit {0}
+KeptIn (Some s) = Opens (bytes_of s.image) (files_of s.image) × AllLinked (bytes_of s.image) (files_of s.image) s.links
+
+abbrev pub Kept : Checker → Type 0
+Kept c = KeptIn c.opened
 
 -- the set and what is kept of it stay
-pub record Stays (c d : Checker) : Type 0 where
-  pub opened : d.opened ≡ c.opened
-  pub image : d.image ≡ c.image
-  pub links : d.links ≡ c.links
+abbrev pub StaysIn : Option OpenSet → Option OpenSet → Type 0
+StaysIn None None = Unit {0}
+StaysIn None (Some t) = ⊥
+StaysIn (Some s) None = ⊥
+StaysIn (Some s) (Some t) = (t.image ≡ s.image) × (t.links ≡ s.links)
+
+abbrev pub Stays : Checker → Checker → Type 0
+Stays c d = StaysIn c.opened d.opened
 
 -- the answers of calls with visits, by file numbers
 abbrev pub visited : Result Visit CallRefusal → Result ℕ CallRefusal

@@ -1,7 +1,6 @@
 -- How the files that a file's input rows name stand, by what is kept of the rows and by the states of the files.
 -- Source: this project's own rule (docs/CALLS.md, "Calls").
-use Rattle.std.specs.Prelude.{◌≡◌, ℕ, ◌<◌, cond, Some, None, Option, ◌==◌, ◌≢◌, slice_index_or}
-use Rattle.links.specs.Linked.{no_link}
+use Rattle.std.specs.Prelude.{◌≡◌, ℕ, ◌<◌, cond, Some, None, Option, ◌≢◌, slice_index_or}
 use Rattle.links.specs.declared.link.Link.{Link}
 use Rattle.links.specs.declared.link.Links.{Links}
 use Rattle.checker.specs.declared.standing.Standing.{Standing}
@@ -14,11 +13,13 @@ state_standing Pending = Waiting
 state_standing Taken = Waiting
 state_standing (Settled s) = elim s.hashes [ Some h ↦ Hashed | None ↦ Unhashed ]
 
-abbrev pub standing_in : (ℕ → State) → Link → Standing
-standing_in row l = cond (l.file == 0) Absent (cond l.owned (state_standing (row l.file)) Unowned)
+-- of a row that names no file, and of one that does
+abbrev pub standing_in : (ℕ → State) → Option Link → Standing
+standing_in row None = Absent
+standing_in row (Some l) = cond l.owned (state_standing (row l.file)) Unowned
 
 -- the first row whose file stands so, or none
 abbrev pub FirstLink : (ℕ → State) → Links → Standing → Option ℕ → Type 0
-FirstLink row l wanted None = (i : ℕ) → i < l.count → standing_in row (slice_index_or l.rows i no_link) ≢ wanted
+FirstLink row l wanted None = (i : ℕ) → i < l.count → standing_in row (slice_index_or l.rows i None) ≢ wanted
 FirstLink row l wanted (Some i) =
-    (i < l.count) × (standing_in row (slice_index_or l.rows i no_link) ≡ wanted) × ((j : ℕ) → j < i → standing_in row (slice_index_or l.rows j no_link) ≢ wanted)
+    (i < l.count) × (standing_in row (slice_index_or l.rows i None) ≡ wanted) × ((j : ℕ) → j < i → standing_in row (slice_index_or l.rows j None) ≢ wanted)

@@ -14,8 +14,7 @@ use Rattle.sink.specs.Write as sinks
 use Rattle.verdict.specs.Judged.{Judged}
 use Rattle.verdict.specs.Laws.{Sound, BothUnhashed}
 use Rattle.verdict.specs.declared.fault.Fault.TheVariants.{NotCanonical}
-use Rattle.verdict.specs.declared.fault.Verdict.{Verdict}
-use Rattle.verdict.specs.declared.fault.Verdict.TheVariants.{Accepted, Refused}
+use Rattle.verdict.specs.Verdicts.{Verdict}
 use Rattle.checker.specs.Calls.{Kind, D, Takes, Settles, PutsBack, Tells, Lines, Tails, Rewrites, Paths, Circles}
 use Rattle.checker.specs.Events.{Event, took, settled, returned, told, located, rewritten, circled, lined, tailed, Stage, Runs}
 use Rattle.checker.specs.Views.{View, fresh, files, path_at, Exists, TakenAt}
@@ -31,7 +30,7 @@ use Rattle.checker.specs.declared.state.State.TheVariants.{Pending, Taken, Settl
 -- w is the verdict of the file at p by the definition, and accepted exactly where the three things hold
 pub record VerdictRight (kind : Kind) (set : Files) (p : Bytes) (w : Verdict) : Type 0 where
   pub judged : Judged set (D kind) p w
-  pub accepted : Iff (w ≡ Accepted) (Sound set (D kind) p)
+  pub accepted : Iff (w ≡ Ok tt) (Sound set (D kind) p)
 
 -- n is the number of bytes of the strings that are digested for the file at p, 0 where it has no hash
 pub data CountRight (kind : Kind) (set : Files) (p : Bytes) (n : ℕ) : Type 0 where
@@ -134,7 +133,7 @@ pub record Again (kind : Kind) (w : View) (k : ℕ) : Type 0 where
   pub reads : Readable (files w) (path_at w k)
   pub not_refused : (out after : List ℕ) → Rewrites w k out (Err NotRead) after → ⊥
   pub itself : (out : List ℕ) (n : ℕ) (after : List ℕ) → Rewrites w k out (Ok n) after → take n after ≡ file_text w.image k
-  pub canonical_already : (place : ℕ) → Judged (files w) (D kind) (path_at w k) (Refused (NotCanonical place)) → ⊥
+  pub canonical_already : (place : ℕ) → Judged (files w) (D kind) (path_at w k) (Err (NotCanonical place)) → ⊥
 
 abbrev pub RewrittenAgain : Type 0
 RewrittenAgain = (kind : Kind) (v w : View) (j k : ℕ) (m : Meaning) → Opens w.image w.count → Exists w k

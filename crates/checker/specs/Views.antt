@@ -6,7 +6,7 @@ use Rattle.hash_modulo.specs.Sets as sets
 use Rattle.hash_modulo.specs.Sets.{Bytes, Files, Means, Row, Names}
 use Rattle.image.specs.Layout.{file_path}
 use Rattle.links.specs.Sets.{set_of}
-use Rattle.verdict.specs.declared.fault.Verdict.{Verdict}
+use Rattle.verdict.specs.Verdicts.{Verdict}
 use Rattle.checker.specs.declared.state.Hashes.{Hashes}
 use Rattle.checker.specs.declared.state.Settlement.{Settlement}
 use Rattle.checker.specs.declared.state.State.{State}

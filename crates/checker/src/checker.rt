@@ -3,13 +3,18 @@ use crate::states::States;
 use image::Image;
 use links::LinkTable;
 
-// The image, what is kept of its files at open, and one row a file with its state.
+// A set that is opened: its image, what is kept of its files, and one row a file with its state.
 #[derive(Drop)]
-pub struct Checker<'a> {
-    opened: bool,
+struct OpenSet<'a> {
     image: Image<'a>,
     links: LinkTable,
     states: States,
+}
+
+// It opens one set.
+#[derive(Drop)]
+pub struct Checker<'a> {
+    opened: Option<OpenSet<'a>>,
 }
 
 // A visit to a file that was taken. It is not `Drop`: it has to be settled or put back.

@@ -1,5 +1,5 @@
 // How the files that a file's input rows name stand.
-ghost use Rattle.std.specs.Prelude.{◌≡◌, Decides};
+ghost use Rattle.std.specs.Prelude.{◌≡◌};
 ghost use Rattle.checker.specs.Rows.{row_at};
 ghost use Rattle.checker.specs.Standings.{standing_in, FirstLink};
 
@@ -22,12 +22,12 @@ pub enum Standing {
 }
 
 // How the file of one row stands.
-fn standing_of(link: Link, states: &States) -> Standing
+fn standing_of(link: Option<Link>, states: &States) -> Standing
     ensures { result ≡ standing_in (row_at states.now) link }
 {
-    if link.file == 0 {
+    let Some(link) = link else {
         return Standing::Absent;
-    }
+    };
     if !link.owned {
         return Standing::Unowned;
     }
@@ -40,20 +40,11 @@ fn standing_of(link: Link, states: &States) -> Standing
     }
 }
 
-fn same(a: Standing, b: Standing) -> bool
-    ensures { Decides result (a ≡ b) }
-{
-    a == b
-}
-
 // The first row, counted from 0, whose file stands so.
 pub fn first_link(links: &Links, states: &States, wanted: Standing) -> Option<usize>
     ensures { FirstLink (row_at states.now) links.now wanted result }
 {
-    for i in 0..links.count {
-        if same(standing_of(links.rows[i], states), wanted) {
-            return Some(i);
-        }
-    }
-    None
+    links.rows[..links.count]
+        .iter()
+        .position(|link| standing_of(*link, states) == wanted)
 }

@@ -1,6 +1,6 @@
 // What is kept of one file.
 use hash_rows::Hash;
-use verdict::Verdict;
+use verdict::Fault;
 
 // The hashes of a file that has them; the masked hash of a fixed file is 32 zeros.
 #[derive(Clone, Copy)]
@@ -12,7 +12,7 @@ pub struct Hashes {
 // What settling a file decides: its verdict, and its hashes where it has them.
 #[derive(Clone, Copy)]
 pub struct Settlement {
-    pub verdict: Verdict,
+    pub verdict: Result<(), Fault>,
     pub hashes: Option<Hashes>,
 }
 

@@ -1,9 +1,11 @@
 -- From the rows of one list to all that a question is put to.
-use Rattle.std.proofs.Common.{◌≡◌, List, [], ◌∷◌, ◌++◌, Some, None, Option, sym, refl, ap, ◌∙◌, append_assoc}
+use Rattle.std.proofs.Common.{◌≡◌, List, [], ◌∷◌, ◌++◌, Some, None, Option, sym, refl, ap, ◌∙◌, subst, append_assoc}
+use Rattle.std.specs.Option.{option_or}
 use Rattle.std.specs.List.{AllByRecursion}
 use Rattle.std.proofs.ByRecursion.{All-append, All-weaker}
 use Rattle.aterm.specs.Grammar.{Tree}
 use Rattle.aterm.specs.Files.{derivation}
+use Rattle.derivation.specs.declared.field.Field.TheVariants.{Outputs}
 use Rattle.derivation.specs.declared.spot.Spot.{Spot}
 use Rattle.derivation.specs.Asked.{FirstNo, First}
 use Rattle.derivation.specs.Questions.{Entry, all_outputs, output_row, input_row, source_row, variable_row, tagged, output_rows, input_rows, source_rows, variable_rows, entries, named, present}
@@ -87,8 +89,17 @@ module _ (Yes : Entry → Type 0) where
   first_front ps qs None g b = All-append (λ e. Yes e.1) ps qs g b
   first_front ps qs (Some w) g b = first_here ps qs w g
 
+  -- one part of a list after another
+  pub first_or : (ps qs : List (Spot × Entry)) (r s : Option Spot) → First Yes ps r → First Yes qs s → First Yes (ps ++ qs) (option_or r s)
+  first_or ps qs None s f g = first_then ps qs s f g
+  first_or ps qs (Some w) s f g = first_here ps qs w f
+
+or_assoc : {T : Type 0} (a b c : Option T) → option_or (option_or a b) c ≡ option_or a (option_or b c)
+or_assoc None b c = refl
+or_assoc (Some x) b c = refl
+
 abbrev pub one : Tree derivation → Spot × Entry
-one x = (record { field = 1; row = 0; place = 0 }, all_outputs x.0)
+one x = (record { field = Outputs; row = 0; place = 0 }, all_outputs x.0)
 
 module _ (x : Tree derivation) where
   abbrev outs : List (Spot × Entry)
@@ -104,7 +115,7 @@ module _ (x : Tree derivation) where
   vars = tagged variable_row (variable_rows x)
 
   -- 13
-  pub present_none : x.0 ≡ [] → FirstNo present (entries x) (record { field = 1; row = 0; place = 0 })
+  pub present_none : x.0 ≡ [] → FirstNo present (entries x) (record { field = Outputs; row = 0; place = 0 })
   present_none e = record {
     before = [];
     row = all_outputs x.0;
@@ -126,27 +137,22 @@ module _ (x : Tree derivation) where
       middle Yes output_row (one x ∷ []) (ins ++ (srcs ++ vars)) (output_rows x) r (a, tt)
       (All-append (λ e. Yes e.1) ins (srcs ++ vars) (all_free Yes input_row b (input_rows x)) (All-append (λ e. Yes e.1) srcs vars (all_free Yes source_row c (source_rows x)) (all_free Yes variable_row d (variable_rows x)))) f
 
-  -- a question that begins with the outputs, and goes on with the inputs, the sources and perhaps the environment
-  module _ (Yes : Entry → Type 0) (top : Yes (all_outputs x.0)) where
-    pub no_output : (w : Spot) → FirstNo (λ e. Yes (output_row e)) (output_rows x) w → FirstNo Yes (entries x) w
-    no_output w f = first_then Yes (one x ∷ []) (outs ++ (ins ++ (srcs ++ vars))) (Some w) (top, tt) (first_here Yes outs (ins ++ (srcs ++ vars)) w (first_tagged Yes output_row (output_rows x) (Some w) f))
+  -- a question to each list, one after another
+  pub by_lists : (Yes : Entry → Type 0) → Yes (all_outputs x.0) → (o i s v : Option Spot) → First (λ e. Yes (output_row e)) (output_rows x) o → First (λ e. Yes (input_row e)) (input_rows x) i → First (λ e. Yes (source_row e)) (source_rows x) s → First (λ e. Yes (variable_row e)) (variable_rows x) v
+      → First Yes (entries x) (option_or (option_or (option_or o i) s) v)
+  by_lists Yes top o i s v a b c d =
+      subst (First Yes (entries x)) (sym (ap (λ r. option_or r v) (or_assoc o i s) ∙ or_assoc o (option_or i s) v ∙ ap (option_or o) (or_assoc i s v)))
+      (first_then Yes (one x ∷ []) (outs ++ (ins ++ (srcs ++ vars))) (option_or o (option_or i (option_or s v))) (top, tt)
+      (first_or Yes outs (ins ++ (srcs ++ vars)) o (option_or i (option_or s v)) (first_tagged Yes output_row (output_rows x) o a)
+      (first_or Yes ins (srcs ++ vars) i (option_or s v) (first_tagged Yes input_row (input_rows x) i b)
+      (first_or Yes srcs vars s v (first_tagged Yes source_row (source_rows x) s c) (first_tagged Yes variable_row (variable_rows x) v d)))))
 
-    module _ (os : First (λ e. Yes (output_row e)) (output_rows x) None) where
-      up_to_outputs : (r : Option Spot) → First Yes (ins ++ (srcs ++ vars)) r → First Yes (entries x) r
-      up_to_outputs r g = first_then Yes (one x ∷ outs) (ins ++ (srcs ++ vars)) r (top, first_tagged Yes output_row (output_rows x) None os) g
-
-      pub no_input : (w : Spot) → FirstNo (λ e. Yes (input_row e)) (input_rows x) w → FirstNo Yes (entries x) w
-      no_input w f = up_to_outputs (Some w) (first_here Yes ins (srcs ++ vars) w (first_tagged Yes input_row (input_rows x) (Some w) f))
-
-      module _ (is : First (λ e. Yes (input_row e)) (input_rows x) None) where
-        up_to_inputs : (r : Option Spot) → First Yes (srcs ++ vars) r → First Yes (entries x) r
-        up_to_inputs r g = up_to_outputs r (first_then Yes ins (srcs ++ vars) r (first_tagged Yes input_row (input_rows x) None is) g)
-
-        pub no_source : (w : Spot) → FirstNo (λ e. Yes (source_row e)) (source_rows x) w → FirstNo Yes (entries x) w
-        no_source w f = up_to_inputs (Some w) (first_here Yes srcs vars w (first_tagged Yes source_row (source_rows x) (Some w) f))
-
-        pub by_sources : ((e : _) → Yes (variable_row e)) → (r : Option Spot) → First (λ e. Yes (source_row e)) (source_rows x) r → First Yes (entries x) r
-        by_sources v r f = up_to_inputs r (first_front Yes srcs vars r (first_tagged Yes source_row (source_rows x) r f) (all_free Yes variable_row v (variable_rows x)))
-
-        pub by_variables : First (λ e. Yes (source_row e)) (source_rows x) None → (r : Option Spot) → First (λ e. Yes (variable_row e)) (variable_rows x) r → First Yes (entries x) r
-        by_variables ss r f = up_to_inputs r (first_then Yes srcs vars r (first_tagged Yes source_row (source_rows x) None ss) (first_tagged Yes variable_row (variable_rows x) r f))
+  -- a question that the environment is not asked
+  pub by_files : (Yes : Entry → Type 0) → Yes (all_outputs x.0) → ((e : _) → Yes (variable_row e)) → (o i s : Option Spot) → First (λ e. Yes (output_row e)) (output_rows x) o → First (λ e. Yes (input_row e)) (input_rows x) i → First (λ e. Yes (source_row e)) (source_rows x) s
+      → First Yes (entries x) (option_or (option_or o i) s)
+  by_files Yes top free o i s a b c =
+      subst (First Yes (entries x)) (sym (or_assoc o i s))
+      (first_then Yes (one x ∷ []) (outs ++ (ins ++ (srcs ++ vars))) (option_or o (option_or i s)) (top, tt)
+      (first_or Yes outs (ins ++ (srcs ++ vars)) o (option_or i s) (first_tagged Yes output_row (output_rows x) o a)
+      (first_or Yes ins (srcs ++ vars) i s (first_tagged Yes input_row (input_rows x) i b)
+      (first_front Yes srcs vars s (first_tagged Yes source_row (source_rows x) s c) (all_free Yes variable_row free (variable_rows x))))))

@@ -1,10 +1,11 @@
 -- What a row that is held says of its tree.
-use Rattle.std.proofs.Common.{◌≡◌, ℕ, ◌+◌, ◌-◌, ◌≤◌, Bool, true, false, cond, not, T, eqb, leb, ◌⊎◌, List, [], ◌∷◌, ◌++◌, length, drop, codes, Decides, sym, refl, ap, ◌∙◌, subst, inl, inr, ⊎_elim, arith, length-append, length-drop, length-take}
+use Rattle.std.proofs.Common.{◌≡◌, ℕ, ◌+◌, ◌-◌, ◌≤◌, Bool, true, false, cond, not, T, eqb, leb, ◌⊎◌, List, [], ◌∷◌, ◌++◌, length, drop, codes, is_some, Some, None, Option, Decides, sym, refl, ap, ◌∙◌, subst, inl, inr, ⊎_elim, arith, length-append, length-drop, length-take}
 use Rattle.std.proofs.lemmas.Bool.Decides.{Decides-eqb, Decides-not, Decides-at, Decides-like, leb_tells}
-use Rattle.aterm.specs.Grammar.{Shape, Tree, Char}
-use Rattle.aterm.specs.Reads.{Each, Spans}
+use Rattle.aterm.specs.Grammar.{Shape, Tree}
+use Rattle.aterm.specs.Reads.{Each}
 use Rattle.aterm.specs.declared.rows.Placed.{Placed}
 use Rattle.std.specs.List.{ContainsAt as Has, AllByRecursion}
+use Rattle.std.specs.Option.{option_map}
 use Rattle.std.specs.Str.{bytes_eq}
 use Rattle.std.proofs.lemmas.Bool.{false≢true}
 use Rattle.std.proofs.lemmas.Slice.Eq.{bytes_eq-Decides}
@@ -21,15 +22,15 @@ nil_from_length (x ∷ xs) e = absurd (omega arith)
 pub decides_empty : {X : Type 0} (xs : List X) (r : Bool) → r ≡ eqb (length xs) 0 → Decides r (xs ≡ [])
 decides_empty xs r e = Decides-like r (nil_from_length xs) (ap length) (Decides-at r (eqb (length xs) 0) e (Decides-eqb (length xs) 0))
 
-pub decides_some : {V : Type 0} (s : Shape) (H : ℕ → V → Tree s → Type 0) (from : ℕ) (vs : List (Placed V)) (xs : List (Tree s)) → Each s H from vs xs → (r : Bool) → r ≡ eqb (length vs) 0 → Decides (not r) (xs ≡ [] → ⊥)
-decides_some s H from vs xs a r e =
-    Decides-not r (Decides-like r
+pub held_empty : {V : Type 0} (s : Shape) (H : ℕ → V → Tree s → Type 0) (from : ℕ) (vs : List (Placed V)) (xs : List (Tree s)) → Each s H from vs xs → (r : Bool) → r ≡ eqb (length vs) 0 → Decides r (xs ≡ [])
+held_empty s H from vs xs a r e =
+    Decides-like r
     (λ p. nil_from_length xs (sym (each_length s H from vs xs a) ∙ p))
     (λ p. each_length s H from vs xs a ∙ ap length p)
-    (Decides-at r (eqb (length vs) 0) e (Decides-eqb (length vs) 0)))
+    (Decides-at r (eqb (length vs) 0) e (Decides-eqb (length vs) 0))
 
-pub span_in_order : {t : List ℕ} {at i j : ℕ} {cs : List Char} → Spans t at i j cs → i ≤ j
-span_in_order s = omega (arith, s.from, s.to)
+pub decides_some : {V : Type 0} (s : Shape) (H : ℕ → V → Tree s → Type 0) (from : ℕ) (vs : List (Placed V)) (xs : List (Tree s)) → Each s H from vs xs → (r : Bool) → r ≡ eqb (length vs) 0 → Decides (not r) (xs ≡ [] → ⊥)
+decides_some s H from vs xs a r e = Decides-not r (held_empty s H from vs xs a r e)
 
 pub decides_is : (b : Bool) → Decides b (T b)
 decides_is true = (λ _. tt, λ _. refl)
@@ -75,6 +76,10 @@ pub flip : (a b : Bool) → a ≡ not b → b ≡ not a
 flip a true e = sym (ap not e)
 flip a false e = sym (ap not e)
 
+pub is_some_map : {A B : Type 0} (f : A → B) (o : Option A) → is_some o ≡ is_some (option_map f o)
+is_some_map f None = refl
+is_some_map f (Some x) = refl
+
 pub fixed_from : (xs : List (Tree output)) → (length xs ≡ 1) × Throughout (λ ys x. hashed x) [] xs → FixedFile xs
 fixed_from [] p = absurd (omega (arith, p.0))
 fixed_from (x ∷ []) p = record { only = x; whole = refl; given = p.1.0 }
@@ -89,10 +94,3 @@ name_by false s out n e = length-append s (45 ∷ out) ∙ omega arith
 
 pub name_lengths : (path out : List ℕ) → length (output_name path out) ≡ name_length (length path - 48) out
 name_lengths path out = name_by (bytes_eq out (codes "out")) (stem path) out (length path - 48) (let a = length-take (length path - 48) (drop 44 path) in let b = length-drop 44 path in omega arith)
-
-pub held_empty : {V : Type 0} (s : Shape) (H : ℕ → V → Tree s → Type 0) (from : ℕ) (vs : List (Placed V)) (xs : List (Tree s)) → Each s H from vs xs → (r : Bool) → r ≡ eqb (length vs) 0 → Decides r (xs ≡ [])
-held_empty s H from vs xs a r e =
-    Decides-like r
-    (λ p. nil_from_length xs (sym (each_length s H from vs xs a) ∙ p))
-    (λ p. each_length s H from vs xs a ∙ ap length p)
-    (Decides-at r (eqb (length vs) 0) e (Decides-eqb (length vs) 0))

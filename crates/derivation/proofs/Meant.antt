@@ -1,51 +1,28 @@
 -- What a string's bytes mean.
-use Rattle.std.proofs.Common.{◌≡◌, ℕ, suc, ◌-◌, ◌<◌, Bool, true, false, cond, not, ◌&&◌, T, eqb, List, [], ◌∷◌, length, get_or, take, drop, Decides, sym, refl, ap, ◌∙◌, arith, length-drop, take_all, ne_eqb}
-use Rattle.aterm.specs.Grammar.{Char, plain, escaped, raw, meaning, escape}
-use Rattle.std.proofs.lemmas.Bool.Decides.{Decides-like}
-use Rattle.derivation.specs.Meaning.{meant}
+use Rattle.std.proofs.Common.{◌≡◌, ℕ, suc, false, nat_eq, Bool, List, [], ◌∷◌, Decides, refl, ap, ◌∙◌, arith}
+use Rattle.std.specs.Iterator.{YieldsFirst, ComparesItemsByEq}
+use Rattle.std.proofs.lemmas.Iterator.Consumers.{YieldsList-from_first}
+use Rattle.aterm.specs.declared.meant.Meant.{Meant}
+use Rattle.aterm.specs.declared.part.Span.{Span}
+use Rattle.aterm.specs.Grammar.{Char, plain, escaped, raw, meaning}
+use Rattle.aterm.specs.Reads.{Spans}
+use Rattle.aterm.specs.Meaning.{meant, meant_left, cut}
+use Rattle.aterm.proofs.Meaning.{meant_raw}
+use Rattle.aterm.proofs.Runs.{eq_decides}
 use Rattle.derivation.specs.Questions.{Plain}
 
-pub meant_none : (s : List ℕ) → length s ≡ 0 → meant false s ≡ []
-meant_none [] e = refl
-meant_none (c ∷ s) e = absurd (omega arith)
+-- a string's span gives what the string means
+span_meaning : (text : List ℕ) (p : ℕ) (v : Span) (cs : List Char) (it : Meant) → it.rest.now ≡ cut text v.start v.end → Spans text p v.start v.end cs → meant_left it ≡ meaning cs
+span_meaning text p v cs it e s = ap (meant false) (e ∙ s.cut) ∙ meant_raw cs
 
-pub meant_plain : (s : List ℕ) → 0 < length s → (get_or s 0 0 ≡ 92 → ⊥) → meant false s ≡ get_or s 0 0 ∷ meant false (drop 1 s)
-meant_plain [] h p = absurd (omega arith)
-meant_plain (c ∷ s) h p = ap (λ b. cond b (meant true s) (c ∷ meant false s)) (ne_eqb c 92 p)
-
-pub meant_half : (s : List ℕ) → length s ≡ 1 → get_or s 0 0 ≡ 92 → meant false s ≡ []
-meant_half [] h e = refl
-meant_half (c ∷ []) h e = ap (λ b. cond (eqb b 92) [] (b ∷ [])) e
-meant_half (c ∷ d ∷ s) h e = absurd (omega arith)
-
-pub meant_escape : (s : List ℕ) → 1 < length s → get_or s 0 0 ≡ 92 → meant false s ≡ escape (get_or s 1 0) ∷ meant false (drop 2 s)
-meant_escape [] h e = absurd (omega arith)
-meant_escape (c ∷ []) h e = absurd (omega arith)
-meant_escape (c ∷ d ∷ s) h e = ap (λ b. cond (eqb b 92) (meant true (d ∷ s)) (b ∷ meant false (d ∷ s))) e
-
-pub tail_is : (s : List ℕ) (k : ℕ) → take (length s - k) (drop k s) ≡ drop k s
-tail_is s k = take_all (length s - k) (drop k s) (omega (arith, length-drop k s))
-
-no_slash : (a b : Bool) → T (not a && not b) → b ≡ false
-no_slash true b t = absurd t
-no_slash false true t = absurd t
-no_slash false false t = refl
-
-pub meaning_meant : (cs : List Char) → meant false (raw cs) ≡ meaning cs
-meaning_meant [] = refl
-meaning_meant (plain c o ∷ cs) = ap (λ b. cond b (meant true (raw cs)) (c ∷ meant false (raw cs))) (no_slash (eqb c 34) (eqb c 92) o) ∙ ap (λ l. c ∷ l) (meaning_meant cs)
-meaning_meant (escaped c ∷ cs) = ap (λ l. escape c ∷ l) (meaning_meant cs)
-
--- two readings go on together
-abbrev pub Alike : List ℕ → List ℕ → List ℕ → List ℕ → Type 0
-Alike a b l r = (meant false a ≡ meant false b → meant false l ≡ meant false r) × (meant false l ≡ meant false r → meant false a ≡ meant false b)
-
--- whether two strings that were cut out mean the same
-pub keys_decide : (a b : List ℕ) (cs ds : List Char) → a ≡ raw cs → b ≡ raw ds → (r : Bool) → Decides r (meant false a ≡ meant false b) → Decides r (meaning cs ≡ meaning ds)
-keys_decide a b cs ds e f r d =
-    let p : meant false a ≡ meaning cs = ap (meant false) e ∙ meaning_meant cs in
-    let q : meant false b ≡ meaning ds = ap (meant false) f ∙ meaning_meant ds in
-    Decides-like r (λ g. sym p ∙ g ∙ q) (λ g. p ∙ g ∙ sym q) d
+-- whether two strings of a text mean the same
+pub keys_decide : (text : List ℕ) (p q : ℕ) (v w : Span) (cs ds : List Char) (one other : Meant) → one.rest.now ≡ cut text v.start v.end → other.rest.now ≡ cut text w.start w.end → Spans text p v.start v.end cs → Spans text q w.start w.end ds
+    → (r : Bool) → ComparesItemsByEq (YieldsFirst meant_left) (λ (s t : Meant). t ≡ s) (YieldsFirst meant_left) one other nat_eq r → Decides r (meaning cs ≡ meaning ds)
+keys_decide text p q v w cs ds one other e f s t r ran =
+    eq_decides (YieldsFirst meant_left) (λ (s t : Meant). t ≡ s) (YieldsFirst meant_left) one other (meaning cs) (meaning ds)
+    (YieldsList-from_first (λ x. x) meant_left (meaning cs) (span_meaning text p v cs one e s))
+    (λ it i. YieldsList-from_first (λ x. x) meant_left (meaning ds) (ap meant_left i ∙ span_meaning text q w ds other f t))
+    r ran
 
 -- a string without backslash means the bytes that stand there
 pub plain_means : (cs : List Char) → Plain (raw cs) → meaning cs ≡ raw cs

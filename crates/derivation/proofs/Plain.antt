@@ -3,6 +3,7 @@ use Rattle.std.proofs.Common.{List, [], ◌∷◌, ◌++◌, None, sym}
 use Rattle.std.specs.List.{AllByRecursion}
 use Rattle.aterm.specs.Grammar.{Tree, string}
 use Rattle.aterm.specs.Files.{output, input, derivation}
+use Rattle.derivation.specs.declared.field.Field.TheVariants.{Outputs, Inputs, Sources}
 use Rattle.derivation.specs.declared.spot.Spot.{Spot}
 use Rattle.derivation.specs.Asked.{First, Throughout}
 use Rattle.derivation.specs.Questions.{Entry, output_row, input_row, source_row, variable_row, tagged, output_rows, input_rows, source_rows, variable_rows, entries, formed, formed_output, formed_name, formed_input, formed_source}
@@ -66,7 +67,7 @@ module _ (x : Tree derivation) (a : First formed (entries x) None) where
       let is : AllByRecursion P ins = all_first P ins (srcs ++ vars) after in
       let ss : AllByRecursion P srcs = all_first P srcs vars (all_second P ins (srcs ++ vars) after) in
       record {
-        outputs = from_each formed_output PlainOutput plain_output [] x.0 (to_throughout output formed_output 1 8 [] x.0 (untagged formed output_row (output_rows x) os));
-        inputs = from_each formed_input PlainInput plain_input [] x.1.0 (to_throughout input formed_input 2 _ [] x.1.0 (untagged formed input_row (input_rows x) is));
-        sources = from_each formed_source AsItStands plain_source [] x.1.1.0 (to_throughout string formed_source 3 _ [] x.1.1.0 (untagged formed source_row (source_rows x) ss));
+        outputs = from_each formed_output PlainOutput plain_output [] x.0 (to_throughout output formed_output Outputs 8 [] x.0 (untagged formed output_row (output_rows x) os));
+        inputs = from_each formed_input PlainInput plain_input [] x.1.0 (to_throughout input formed_input Inputs _ [] x.1.0 (untagged formed input_row (input_rows x) is));
+        sources = from_each formed_source AsItStands plain_source [] x.1.1.0 (to_throughout string formed_source Sources _ [] x.1.1.0 (untagged formed source_row (source_rows x) ss));
       }

@@ -5,9 +5,10 @@ use Rattle.std.proofs.ByRecursion.{All-append}
 use Rattle.aterm.specs.Grammar.{Shape, Tree}
 use Rattle.aterm.specs.Reads.{Each, past}
 use Rattle.aterm.specs.declared.rows.Placed.{Placed}
+use Rattle.derivation.specs.declared.field.Field.{Field}
 use Rattle.derivation.specs.declared.spot.Spot.{Spot}
 use Rattle.std.proofs.lemmas.Bool.{false≢true}
-use Rattle.derivation.specs.Asked.{FirstNo, First, rows_at, Held, HeldRow, Throughout}
+use Rattle.derivation.specs.Asked.{FirstNo, First, rows_at, Throughout}
 
 module _ (s : Shape) where
   -- where the row after these would begin
@@ -15,11 +16,11 @@ module _ (s : Shape) where
   ends at [] = at
   ends at (x ∷ xs) = ends (past s at x) xs
 
-  pub rows_append : (number at : ℕ) (earlier xs ys : List (Tree s)) → rows_at s number at earlier (xs ++ ys) ≡ rows_at s number at earlier xs ++ rows_at s number (ends at xs) (earlier ++ xs) ys
-  rows_append number at earlier [] ys = ap (λ l. rows_at s number at l ys) (sym (append-nil earlier))
-  rows_append number at earlier (x ∷ xs) ys =
-      ap (λ l. (record { field = number; row = length earlier + 1; place = at }, (earlier, x)) ∷ l)
-      (rows_append number (past s at x) (earlier ++ x ∷ []) xs ys ∙ ap (λ l. rows_at s number (past s at x) (earlier ++ x ∷ []) xs ++ rows_at s number (ends (past s at x) xs) l ys) (append_assoc earlier (x ∷ []) xs))
+  pub rows_append : (field : Field) (at : ℕ) (earlier xs ys : List (Tree s)) → rows_at s field at earlier (xs ++ ys) ≡ rows_at s field at earlier xs ++ rows_at s field (ends at xs) (earlier ++ xs) ys
+  rows_append field at earlier [] ys = ap (λ l. rows_at s field at l ys) (sym (append-nil earlier))
+  rows_append field at earlier (x ∷ xs) ys =
+      ap (λ l. (record { field = field; row = length earlier + 1; place = at }, (earlier, x)) ∷ l)
+      (rows_append field (past s at x) (earlier ++ x ∷ []) xs ys ∙ ap (λ l. rows_at s field (past s at x) (earlier ++ x ∷ []) xs ++ rows_at s field (ends (past s at x) xs) l ys) (append_assoc earlier (x ∷ []) xs))
 
 module _ {V : Type 0} (s : Shape) (H : ℕ → V → Tree s → Type 0) where
   pub record Split (from : ℕ) (vs : List (Placed V)) (xs : List (Tree s)) (i : ℕ) (v : Placed V) : Type 0 where
@@ -64,31 +65,30 @@ module _ {V : Type 0} (s : Shape) (H : ℕ → V → Tree s → Type 0) where
   each_length from (v ∷ vs) [] a = absurd a
   each_length from (v ∷ vs) (x ∷ xs) a = ap suc (each_length (past s from x) vs xs a.1)
 
-  pub held_row : (vs : List (Placed V)) (i : ℕ) → i < length vs → (v : Placed V) → v ≡ get_or vs i v → Held s H vs → HeldRow s H (take i vs) v.value
-  held_row vs i h v e a =
-      let r = split a.0 vs a.1 i h v e a.2 in
-      ((a.0, take i a.1, r.front), (ends s a.0 (take i a.1) + 1, r.x, r.held))
+  -- the rows as a slice of their table
+  pub each_as : (from : ℕ) {us vs : List (Placed V)} (xs : List (Tree s)) → us ≡ vs → Each s H from vs xs → Each s H from us xs
+  each_as from xs e a = subst (λ l. Each s H from l xs) (sym e) a
 
-  module _ (Yes : List (Tree s) → Tree s → Type 0) (number : ℕ) where
+  module _ (Yes : List (Tree s) → Tree s → Type 0) (field : Field) where
     abbrev pub Clean : ℕ → List (Tree s) → Type 0
-    Clean from xs = AllByRecursion (λ e. Yes e.1.0 e.1.1) (rows_at s number from [] xs)
+    Clean from xs = AllByRecursion (λ e. Yes e.1.0 e.1.1) (rows_at s field from [] xs)
 
     module _ (from : ℕ) (vs : List (Placed V)) (xs : List (Tree s)) (i : ℕ) (v : Placed V) (r : Split from vs xs i v) (c : Clean from (take i xs)) where
       pub clean_more : Yes (take i xs) r.x → Clean from (take (suc i) xs)
-      clean_more y = subst (Clean from) (sym r.next) (subst (AllByRecursion (λ e. Yes e.1.0 e.1.1)) (sym (rows_append s number from [] (take i xs) (r.x ∷ []))) (All-append (λ e. Yes e.1.0 e.1.1) (rows_at s number from [] (take i xs)) (rows_at s number (ends s from (take i xs)) (take i xs) (r.x ∷ [])) c (y, tt)))
+      clean_more y = subst (Clean from) (sym r.next) (subst (AllByRecursion (λ e. Yes e.1.0 e.1.1)) (sym (rows_append s field from [] (take i xs) (r.x ∷ []))) (All-append (λ e. Yes e.1.0 e.1.1) (rows_at s field from [] (take i xs)) (rows_at s field (ends s from (take i xs)) (take i xs) (r.x ∷ [])) c (y, tt)))
 
-      pub found : (Yes (take i xs) r.x → ⊥) → FirstNo (λ e. Yes e.0 e.1) (rows_at s number from [] xs) (record { field = number; row = i + 1; place = v.place })
+      pub found : (Yes (take i xs) r.x → ⊥) → FirstNo (λ e. Yes e.0 e.1) (rows_at s field from [] xs) (record { field = field; row = i + 1; place = v.place })
       found n = record {
-        before = rows_at s number from [] (take i xs);
+        before = rows_at s field from [] (take i xs);
         row = (take i xs, r.x);
-        after = rows_at s number (past s (ends s from (take i xs)) r.x) (take i xs ++ r.x ∷ []) r.after;
-        whole = ap (rows_at s number from []) r.whole ∙ rows_append s number from [] (take i xs) (r.x ∷ r.after) ∙ ap (λ w. rows_at s number from [] (take i xs) ++ (w, (take i xs, r.x)) ∷ rows_at s number (past s (ends s from (take i xs)) r.x) (take i xs ++ r.x ∷ []) r.after) same;
+        after = rows_at s field (past s (ends s from (take i xs)) r.x) (take i xs ++ r.x ∷ []) r.after;
+        whole = ap (rows_at s field from []) r.whole ∙ rows_append s field from [] (take i xs) (r.x ∷ r.after) ∙ ap (λ w. rows_at s field from [] (take i xs) ++ (w, (take i xs, r.x)) ∷ rows_at s field (past s (ends s from (take i xs)) r.x) (take i xs ++ r.x ∷ []) r.after) same;
         clean = c;
         refused = n;
       }
         where
-          same : ◌≡◌ {A = Spot} (record { field = number; row = length (take i xs) + 1; place = ends s from (take i xs) }) (record { field = number; row = i + 1; place = v.place })
-          same = λ j. record { field = number; row = r.long j + 1; place = sym r.stands j }
+          same : ◌≡◌ {A = Spot} (record { field = field; row = length (take i xs) + 1; place = ends s from (take i xs) }) (record { field = field; row = i + 1; place = v.place })
+          same = λ j. record { field = field; row = r.long j + 1; place = sym r.stands j }
 
     pub clean_all : (from : ℕ) (vs : List (Placed V)) (xs : List (Tree s)) (i : ℕ) → length vs ≤ i → Each s H from vs xs → Clean from (take i xs) → Clean from xs
     clean_all from vs xs i h a c = subst (Clean from) (take_all i xs (omega (arith, each_length from vs xs a))) c
@@ -102,11 +102,11 @@ pub first_decides : {E : Type 0} (Yes : E → Type 0) (rows : List (Spot × E)) 
 first_decides Yes rows None f = (λ t. f, λ a. refl)
 first_decides Yes rows (Some w) f = (λ t. absurd (false≢true t), λ a. absurd (never_all Yes f.before f.after w f.row f.refused (subst (AllByRecursion (λ e. Yes e.1)) f.whole a)))
 
-module _ (s : Shape) (Yes : List (Tree s) → Tree s → Type 0) (number : ℕ) where
-  pub to_throughout : (at : ℕ) (ys xs : List (Tree s)) → AllByRecursion (λ e. Yes e.1.0 e.1.1) (rows_at s number at ys xs) → Throughout Yes ys xs
+module _ (s : Shape) (Yes : List (Tree s) → Tree s → Type 0) (field : Field) where
+  pub to_throughout : (at : ℕ) (ys xs : List (Tree s)) → AllByRecursion (λ e. Yes e.1.0 e.1.1) (rows_at s field at ys xs) → Throughout Yes ys xs
   to_throughout at ys [] a = tt
   to_throughout at ys (x ∷ xs) a = (a.0, to_throughout (past s at x) (ys ++ x ∷ []) xs a.1)
 
-  pub from_throughout : (at : ℕ) (ys xs : List (Tree s)) → Throughout Yes ys xs → AllByRecursion (λ e. Yes e.1.0 e.1.1) (rows_at s number at ys xs)
+  pub from_throughout : (at : ℕ) (ys xs : List (Tree s)) → Throughout Yes ys xs → AllByRecursion (λ e. Yes e.1.0 e.1.1) (rows_at s field at ys xs)
   from_throughout at ys [] a = tt
   from_throughout at ys (x ∷ xs) a = (a.0, from_throughout (past s at x) (ys ++ x ∷ []) xs a.1)

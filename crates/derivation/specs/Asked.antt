@@ -1,10 +1,12 @@
 -- A question that is put to rows in their order, and the first row of which the answer is no.
 -- Source: this project's own rule (docs/CALLS.md).
-use Rattle.std.specs.Prelude.{◌≡◌, ℕ, ◌+◌, Bool, List, [], ◌∷◌, ◌++◌, length, Some, None, Decides, Option}
+use Rattle.std.specs.Prelude.{◌≡◌, ℕ, ◌+◌, Bool, List, [], ◌∷◌, ◌++◌, length, Some, None, Decides, Option, option_map}
+use Rattle.std.specs.Borrow.{Bor}
 use Rattle.std.specs.List.{AllByRecursion}
-use Rattle.aterm.specs.Grammar.{Shape, Tree, Char, raw}
-use Rattle.aterm.specs.Reads.{Each, past, Spans}
+use Rattle.aterm.specs.Grammar.{Shape, Tree}
+use Rattle.aterm.specs.Reads.{Each, past}
 use Rattle.aterm.specs.declared.rows.Placed.{Placed}
+use Rattle.derivation.specs.declared.field.Field.{Field}
 use Rattle.derivation.specs.declared.spot.Spot.{Spot}
 
 -- Of the rows, each with where it stands, the first of which the answer is no stands at `w`.
@@ -21,33 +23,23 @@ abbrev pub First : {E : Type 0} → (E → Type 0) → List (Spot × E) → Opti
 First Yes rows None = AllByRecursion (λ e. Yes e.1) rows
 First Yes rows (Some w) = FirstNo Yes rows w
 
-module _ (s : Shape) (number : ℕ) where
+module _ (s : Shape) (field : Field) where
   -- the rows of a list, the first of which begins at `at`: each with where it stands, and with the rows before it
   abbrev pub rows_at : ℕ → List (Tree s) → List (Tree s) → List (Spot × (List (Tree s) × Tree s))
   rows_at at earlier [] = []
-  rows_at at earlier (x ∷ xs) = (record { field = number; row = length earlier + 1; place = at }, (earlier, x)) ∷ rows_at (past s at x) (earlier ++ x ∷ []) xs
+  rows_at at earlier (x ∷ xs) = (record { field = field; row = length earlier + 1; place = at }, (earlier, x)) ∷ rows_at (past s at x) (earlier ++ x ∷ []) xs
 
 module _ {V : Type 0} (s : Shape) (H : ℕ → V → Tree s → Type 0) where
-  -- the rows are those of some tree
-  abbrev pub Held : List (Placed V) → Type 0
-  Held vs = (from : ℕ) × (xs : List (Tree s)) × Each s H from vs xs
-
-  abbrev pub HeldRow : List (Placed V) → V → Type 0
-  HeldRow vs v = Held vs × ((at : ℕ) × (x : Tree s) × H at v x)
-
   -- r says whether the answer is yes of the row v, after the rows vs
   abbrev pub Says : (List (Tree s) → Tree s → Type 0) → List (Placed V) → V → Bool → Type 0
   Says Yes vs v r = (from : ℕ) (xs : List (Tree s)) (at : ℕ) (x : Tree s) → Each s H from vs xs → H at v x → Decides r (Yes xs x)
 
-  abbrev pub Scans : (List (Tree s) → Tree s → Type 0) → ℕ → List (Placed V) → Option Spot → Type 0
-  Scans Yes number vs r = (from : ℕ) (xs : List (Tree s)) → Each s H from vs xs → First (λ e. Yes e.0 e.1) (rows_at s number from [] xs) r
+  abbrev pub Scans : (List (Tree s) → Tree s → Type 0) → Field → List (Placed V) → Option Spot → Type 0
+  Scans Yes field vs r = (from : ℕ) (xs : List (Tree s)) → Each s H from vs xs → First (λ e. Yes e.0 e.1) (rows_at s field from [] xs) r
 
--- some string of the text has this span, and its bytes are these
-abbrev pub Spanned : List ℕ → ℕ → ℕ → Type 0
-Spanned text start stop = (at : ℕ) × (cs : List Char) × Spans text at start stop cs
-
-abbrev pub Cuts : List ℕ → ℕ → ℕ → List ℕ → Type 0
-Cuts text start stop bytes = (at : ℕ) (cs : List Char) → Spans text at start stop cs → bytes ≡ raw cs
+  -- the same of a row and how many come before it, whatever the field
+  abbrev pub Finds : (List (Tree s) → Tree s → Type 0) → List (Placed V) → Option (ℕ × Bor (Placed V)) → Type 0
+  Finds Yes vs r = (field : Field) → Scans Yes field vs (option_map (λ p. record { field = field; row = p.0 + 1; place = p.1.now.place }) r)
 
 -- the answer is yes of each row, after those before it
 abbrev pub Throughout : {X : Type 0} → (List X → X → Type 0) → List X → List X → Type 0

@@ -1,11 +1,14 @@
 -- What a file is judged: accepted, or refused by its one fault; and what a fault is told by.
 -- Source: this project's own rule (docs/CALLS.md).
-use Rattle.std.specs.Prelude.{◌≡◌, ℕ, ◌<◌, List, Some, None, Ok, Err, Option, Result}
+use Rattle.std.specs.Prelude.{◌≡◌, ℕ, ◌<◌, List, ◌∷◌, ◌++◌, Some, None, Ok, Err, Option, Result}
+use Rattle.std.specs.Fmt.{decimal}
 use Rattle.aterm.specs.declared.fault.Cause.{Cause}
 use Rattle.aterm.specs.declared.fault.Cause.TheVariants.{Byte as WrongByte, Row as RowTooMany}
 use Rattle.aterm.specs.declared.file.Derivation.{Derivation}
 use Rattle.aterm.specs.Grammar.{signs, Tree}
 use Rattle.aterm.specs.Files.{derivation, whole, in_derivation, IsFault, Reading}
+use Rattle.derivation.specs.declared.field.Field.{Field}
+use Rattle.derivation.specs.declared.field.Field.TheVariants.{Outputs, Inputs, Sources, Environment}
 use Rattle.derivation.specs.declared.spot.Spot.{Spot}
 use Rattle.derivation.specs.declared.question.Question.{Question}
 use Rattle.derivation.specs.declared.fault.FileFault.{FileFault}
@@ -20,9 +23,19 @@ abbrev pub text_number : Cause → ℕ
 text_number WrongByte = 11
 text_number RowTooMany = 12
 
+abbrev pub field_number : Field → ℕ
+field_number Outputs = 1
+field_number Inputs = 2
+field_number Sources = 3
+field_number Environment = 7
+
 abbrev pub details : FileFault → Told
 details (Text f) = record { number = text_number f.cause; layer = 2; field = 0; row = 0; place = f.place }
-details (Row q w) = record { number = number q; layer = 3; field = w.field; row = w.row; place = w.place }
+details (Row q w) = record { number = number q; layer = 3; field = field_number w.field; row = w.row; place = w.place }
+
+-- what is told as text: the five numbers, with a space between two
+abbrev pub columns : Told → List ℕ
+columns t = decimal t.number ++ 32 ∷ decimal t.layer ++ 32 ∷ decimal t.field ++ 32 ∷ decimal t.row ++ 32 ∷ decimal t.place
 
 -- Of the file at `path` with the tree x: the answer to the question q, none or where its first no is.
 abbrev pub Answer : List ℕ → Tree derivation → Question → Option Spot → Type 0

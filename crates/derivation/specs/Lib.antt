@@ -1,6 +1,5 @@
 pub mod Asked
 pub mod Questions
-pub mod Meaning
 pub mod Keys
 pub mod Plain
 pub mod Judgement

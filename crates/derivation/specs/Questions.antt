@@ -7,6 +7,7 @@ use Rattle.aterm.specs.Grammar.{string, list, Tree, raw, meaning}
 use Rattle.aterm.specs.Reads.{past}
 use Rattle.aterm.specs.Files.{output, input, variable, derivation, in_derivation}
 use Rattle.aterm.specs.declared.file.Derivation.{Derivation}
+use Rattle.derivation.specs.declared.field.Field.TheVariants.{Outputs, Inputs, Sources, Environment}
 use Rattle.derivation.specs.declared.spot.Spot.{Spot}
 use Rattle.derivation.specs.declared.question.Question.{Question}
 use Rattle.derivation.specs.declared.question.Question.TheVariants.{Present, Formed, Different, Fixed, Short}
@@ -45,20 +46,20 @@ abbrev pub place_7 : Tree derivation → ℕ
 place_7 x = past (list 64 string) (place_6 x) x.1.1.1.1.1.0
 
 abbrev pub output_rows : Tree derivation → List (Spot × (List (Tree output) × Tree output))
-output_rows x = rows_at output 1 8 [] x.0
+output_rows x = rows_at output Outputs 8 [] x.0
 
 abbrev pub input_rows : Tree derivation → List (Spot × (List (Tree input) × Tree input))
-input_rows x = rows_at input 2 (place_2 x + 1) [] x.1.0
+input_rows x = rows_at input Inputs (place_2 x + 1) [] x.1.0
 
 abbrev pub source_rows : Tree derivation → List (Spot × (List (Tree string) × Tree string))
-source_rows x = rows_at string 3 (place_3 x + 1) [] x.1.1.0
+source_rows x = rows_at string Sources (place_3 x + 1) [] x.1.1.0
 
 abbrev pub variable_rows : Tree derivation → List (Spot × (List (Tree variable) × Tree variable))
-variable_rows x = rows_at variable 7 (place_7 x + 1) [] x.1.1.1.1.1.1
+variable_rows x = rows_at variable Environment (place_7 x + 1) [] x.1.1.1.1.1.1
 
 -- all that the questions are put to, in text order
 abbrev pub entries : Tree derivation → List (Spot × Entry)
-entries x = (record { field = 1; row = 0; place = 0 }, all_outputs x.0) ∷ (tagged output_row (output_rows x) ++ (tagged input_row (input_rows x) ++ (tagged source_row (source_rows x) ++ tagged variable_row (variable_rows x))))
+entries x = (record { field = Outputs; row = 0; place = 0 }, all_outputs x.0) ∷ (tagged output_row (output_rows x) ++ (tagged input_row (input_rows x) ++ (tagged source_row (source_rows x) ++ tagged variable_row (variable_rows x))))
 
 -- 13: an output, and a name in each input row
 abbrev pub named : List (Tree input) → Tree input → Type 0
@@ -200,10 +201,6 @@ number Formed = 14
 number Different = 15
 number Fixed = 16
 number Short = 17
-
--- d holds some tree of the text
-abbrev pub HeldFile : List ℕ → Derivation → Type 0
-HeldFile text d = (x : Tree derivation) × in_derivation text 7 d x
 
 -- r is where the first no is, in the tree that d holds
 abbrev pub Answered : (Tree derivation → Entry → Type 0) → List ℕ → Derivation → Option Spot → Type 0

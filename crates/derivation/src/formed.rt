@@ -5,7 +5,6 @@ ghost use Rattle.aterm.specs.Files.{output, input, in_output, in_input, span};
 ghost use Rattle.derivation.specs.Questions.{Plain, formed_output, formed_name, formed_input, formed_source};
 
 use crate::ask::{Ask, all_yes};
-use crate::rows::cut;
 use aterm::{Input, Output, Placed, Span};
 use store_path::{ends_with_drv, is_name, is_store_path};
 
@@ -29,10 +28,10 @@ impl Ask<Output> for FormedOutput {
     ghost yes = { λ q ys x. formed_output ys x };
 
     fn says(&self, text: &[u8], _earlier: &[Placed<Output>], row: &Output) -> bool {
-        let name = cut(text, row.name);
-        let path = cut(text, row.path);
-        let algorithm = cut(text, row.algorithm);
-        let hash = cut(text, row.hash);
+        let name = row.name.bytes(text);
+        let path = row.path.bytes(text);
+        let algorithm = row.algorithm.bytes(text);
+        let hash = row.hash.bytes(text);
         let named = is_plain(name) & is_name(name);
         let stored = is_plain(path) & is_store_path(path);
         let plain = is_plain(algorithm) & is_plain(hash);
@@ -52,7 +51,7 @@ impl Ask<Span> for FormedName {
     ghost yes = { λ q ys x. formed_name ys x };
 
     fn says(&self, text: &[u8], _earlier: &[Placed<Span>], row: &Span) -> bool {
-        let name = cut(text, *row);
+        let name = row.bytes(text);
         is_plain(name) & is_name(name)
     }
 }
@@ -69,7 +68,7 @@ impl Ask<Input> for FormedInput {
     ghost yes = { λ q ys x. formed_input ys x };
 
     fn says(&self, text: &[u8], _earlier: &[Placed<Input>], row: &Input) -> bool {
-        let path = cut(text, row.path);
+        let path = row.path.bytes(text);
         let stored = is_plain(path) & is_store_path(path) & ends_with_drv(path);
         let names = all_yes(&FormedName, text, row.names.as_slice());
         stored & names
@@ -88,7 +87,7 @@ impl Ask<Span> for FormedSource {
     ghost yes = { λ q ys x. formed_source ys x };
 
     fn says(&self, text: &[u8], _earlier: &[Placed<Span>], row: &Span) -> bool {
-        let path = cut(text, *row);
+        let path = row.bytes(text);
         is_plain(path) & is_store_path(path)
     }
 }

@@ -6,8 +6,6 @@ ghost use Rattle.derivation.specs.Keys.{KeyOf};
 ghost use Rattle.derivation.specs.Questions.{fresh, different_input};
 
 use crate::ask::{Ask, all_yes};
-use crate::meaning::same_meaning;
-use crate::rows::cut;
 use aterm::{Input, Output, Placed, Span, Variable};
 
 // A row that has a key.
@@ -82,10 +80,9 @@ impl<T: Keyed> Ask<T> for Fresh {
     ghost yes = { λ q ys x. fresh T.Keyed.label ys x };
 
     fn says(&self, text: &[u8], earlier: &[Placed<T>], row: &T) -> bool {
-        let mine = cut(text, row.key());
+        let mine = row.key().meant(text);
         for y in earlier {
-            let other = cut(text, y.value.key());
-            if same_meaning(other, mine) {
+            if y.value.key().meant(text).eq(mine) {
                 return false;
             }
         }

@@ -2,22 +2,21 @@
 #![tactic(auto)]
 
 mod ask;
-mod digits;
 mod fault;
+mod field;
 mod file;
 mod formed;
 mod keys;
 mod laws;
-mod meaning;
 mod question;
 mod rows;
 mod spot;
 mod told;
 
 pub use fault::FileFault;
+pub use field::Field;
 pub use file::read_file;
 pub use laws::every_tree_is_judged;
 pub use question::Question;
-pub use rows::cut;
 pub use spot::Spot;
-pub use told::{Told, tell};
+pub use told::Told;

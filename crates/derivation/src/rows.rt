@@ -4,29 +4,17 @@ ghost use Rattle.aterm.specs.Grammar.{raw, Tree};
 ghost use Rattle.aterm.specs.Reads.{Each};
 ghost use Rattle.std.specs.List.{ContainsAt as Has, AllByRecursion};
 ghost use Rattle.aterm.specs.Files.{output, input, in_output, in_input};
-ghost use Rattle.derivation.specs.Asked.{Spanned, Cuts, Held};
 ghost use Rattle.derivation.specs.Questions.{named, blank as both_blank, Given, FixedFile, hashed, name_length, hex};
 
 use crate::ask::{Ask, all_yes};
-use crate::digits::all_hex;
-use aterm::{Input, Output, Placed, Span};
+use aterm::{Input, Output, Placed};
+use store_path::all_in;
 
-// The bytes of a string as they stand in the text.
-pub fn cut(text: &[u8], span: Span) -> &[u8]
-    requires { Spanned text.now span.start span.end }
-    ensures { Cuts text.now span.start span.end result.now }
-{
-    let start = span.start;
-    let end = span.end;
-    &text[start..end]
-}
+// The name of the output that stands for the whole file.
+const OUT: &[u8] = b"out";
 
-// Whether two strings have the same bytes.
-pub fn same(a: &[u8], b: &[u8]) -> bool
-    ensures { Decides result (a.now ≡ b.now) }
-{
-    a == b
-}
+// The digits of base 16, letters in lower case only.
+const HEX: &[u8] = b"0123456789abcdef";
 
 // Whether an input row has a name.
 #[derive(Clone, Copy)]
@@ -58,8 +46,8 @@ impl Ask<Output> for Columns {
     ghost yes = { λ q ys x. Is q.fixed ⊎ both_blank x };
 
     fn says(&self, text: &[u8], _earlier: &[Placed<Output>], row: &Output) -> bool {
-        let algorithm = cut(text, row.algorithm);
-        let hash = cut(text, row.hash);
+        let algorithm = row.algorithm.bytes(text);
+        let hash = row.hash.bytes(text);
         self.fixed | (algorithm.is_empty() & hash.is_empty())
     }
 }
@@ -68,7 +56,7 @@ impl Ask<Output> for Columns {
 fn is_called(algorithm: &[u8], hash: &[u8], name: &[u8], marked: &[u8], count: usize) -> bool
     ensures { Decides result (((algorithm.now ≡ name.now) ⊎ (algorithm.now ≡ marked.now)) × (length hash.now ≡ count) × AllByRecursion (Has hex) hash.now) }
 {
-    (same(algorithm, name) || same(algorithm, marked)) && hash.len() == count && all_hex(hash)
+    (algorithm == name || algorithm == marked) && hash.len() == count && all_in(hash, HEX)
 }
 
 // Whether the algorithm is one of four, perhaps after `r:`, and the hash has its number of digits.
@@ -93,16 +81,15 @@ impl Ask<Output> for Hashed {
     ghost yes = { λ q ys x. hashed x };
 
     fn says(&self, text: &[u8], _earlier: &[Placed<Output>], row: &Output) -> bool {
-        let name = cut(text, row.name);
-        let algorithm = cut(text, row.algorithm);
-        let hash = cut(text, row.hash);
-        same(name, b"out") & is_given(algorithm, hash)
+        let name = row.name.bytes(text);
+        let algorithm = row.algorithm.bytes(text);
+        let hash = row.hash.bytes(text);
+        (name == OUT) & is_given(algorithm, hash)
     }
 }
 
 // Whether the only output is `out`, with a hash.
 pub fn is_fixed(text: &[u8], outputs: &[Placed<Output>]) -> bool
-    requires { Held output (in_output text.now) outputs.now }
     ensures { (from : ℕ) (xs : List (Tree output)) → Each output (in_output text.now) from outputs.now xs → Decides result (FixedFile xs) }
 {
     (outputs.len() == 1) & all_yes(&Hashed, text, outputs)
@@ -122,8 +109,8 @@ impl Ask<Output> for Names {
     ghost yes = { λ q ys x. name_length q.stem (raw x.0) ≤ 211 };
 
     fn says(&self, text: &[u8], _earlier: &[Placed<Output>], row: &Output) -> bool {
-        let name = cut(text, row.name);
-        if same(name, b"out") {
+        let name = row.name.bytes(text);
+        if name == OUT {
             return self.stem <= 211;
         }
         if name.len() >= 211 {

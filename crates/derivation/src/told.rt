@@ -1,14 +1,14 @@
 // The numbers that a fault is told by.
-ghost use Rattle.std.specs.Prelude.{◌≡◌};
-ghost use Rattle.derivation.specs.Judgement.{details};
-ghost use Rattle.derivation.specs.Questions.{number as question_number};
+ghost use Rattle.std.specs.Prelude.{◌≡◌, Some};
+ghost use Rattle.derivation.specs.Judgement.{details, columns};
 
 use crate::fault::FileFault;
-use crate::question::Question;
 use aterm::Cause;
+use std::fmt;
 
 // 11 and 12 are of layer 2, with field and row 0; 13 to 17 are of layer 3.
-#[derive(Clone, Copy, PartialEq, Debug)]
+// Numbers, since they are what is printed: which fault it is stands in `FileFault`.
+#[derive(Clone, Copy, Default, PartialEq, Debug)]
 pub struct Told {
     pub number: u8,
     pub layer: u8,
@@ -17,43 +17,44 @@ pub struct Told {
     pub place: usize,
 }
 
-// The question's number.
-fn number_of(question: Question) -> u8
-    ensures { result ≡ question_number question }
-{
-    match question {
-        Question::Present => 13,
-        Question::Formed => 14,
-        Question::Different => 15,
-        Question::Fixed => 16,
-        Question::Short => 17,
-    }
-}
+impl From<FileFault> for Told {
+    ghost from_gives = { λ f r. r ≡ details f };
 
-// What the fault says.
-pub fn tell(fault: FileFault) -> Told
-    ensures { result ≡ details fault }
-{
-    match fault {
-        FileFault::Text(f) => {
-            let number = match f.cause {
-                Cause::Byte => 11,
-                Cause::Row => 12,
-            };
-            Told {
-                number,
+    fn from(value: FileFault) -> Told {
+        match value {
+            FileFault::Text(fault) => Told {
+                // The reader's causes know no numbers of questions.
+                number: match fault.cause {
+                    Cause::Byte => 11,
+                    Cause::Row => 12,
+                },
                 layer: 2,
                 field: 0,
                 row: 0,
-                place: f.place,
-            }
+                place: fault.place,
+            },
+            FileFault::Row(question, spot) => Told {
+                number: question as u8,
+                layer: 3,
+                field: spot.field as u8,
+                row: spot.row,
+                place: spot.place,
+            },
         }
-        FileFault::Row(q, spot) => Told {
-            number: number_of(q),
-            layer: 3,
-            field: spot.field,
-            row: spot.row,
-            place: spot.place,
-        },
+    }
+}
+
+impl fmt::Display for Told {
+    ghost output = { λ t. Some (columns t) };
+
+    fn fmt<W: fmt::Write>(&self, f: &mut fmt::Formatter<W>) -> fmt::Result {
+        let Told {
+            number,
+            layer,
+            field,
+            row,
+            place,
+        } = *self;
+        write!(f, "{number} {layer} {field} {row} {place}")
     }
 }

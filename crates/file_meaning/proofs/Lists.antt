@@ -7,17 +7,18 @@ use Rattle.aterm.specs.Reads.{past}
 use Rattle.derivation.proofs.Plain.{all_first, all_second}
 use Rattle.derivation.specs.Asked.{rows_at, Throughout}
 use Rattle.derivation.specs.Questions.{Entry, tagged, fresh}
+use Rattle.derivation.specs.declared.field.Field.{Field}
 use Rattle.derivation.specs.declared.spot.Spot.{Spot}
 use Rattle.canonical.specs.Order.{Under, Along, Rising, Different}
 use Rattle.canonical.proofs.Orders.{under_not_self}
 
 -- a question to the rows of one field
-module _ (s : Shape) (number : ℕ) (f : List (Tree s) × Tree s → Entry) (Y : Entry → Type 0) where
-  pub throughout : (at : ℕ) (ys xs : List (Tree s)) → AllByRecursion (λ (e : Spot × Entry). Y e.1) (tagged f (rows_at s number at ys xs)) → Throughout (λ zs x. Y (f (zs, x))) ys xs
+module _ (s : Shape) (field : Field) (f : List (Tree s) × Tree s → Entry) (Y : Entry → Type 0) where
+  pub throughout : (at : ℕ) (ys xs : List (Tree s)) → AllByRecursion (λ (e : Spot × Entry). Y e.1) (tagged f (rows_at s field at ys xs)) → Throughout (λ zs x. Y (f (zs, x))) ys xs
   throughout at ys [] a = tt
   throughout at ys (x ∷ xs) a = (a.0, throughout (past s at x) (ys ++ x ∷ []) xs a.1)
 
-  pub tagged_all : (at : ℕ) (ys xs : List (Tree s)) → Throughout (λ zs x. Y (f (zs, x))) ys xs → AllByRecursion (λ (e : Spot × Entry). Y e.1) (tagged f (rows_at s number at ys xs))
+  pub tagged_all : (at : ℕ) (ys xs : List (Tree s)) → Throughout (λ zs x. Y (f (zs, x))) ys xs → AllByRecursion (λ (e : Spot × Entry). Y e.1) (tagged f (rows_at s field at ys xs))
   tagged_all at ys [] a = tt
   tagged_all at ys (x ∷ xs) a = (a.0, tagged_all (past s at x) (ys ++ x ∷ []) xs a.1)
 

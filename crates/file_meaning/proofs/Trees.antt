@@ -10,6 +10,7 @@ use Rattle.derivation.specs.Judgement.{Answer}
 use Rattle.derivation.specs.Questions.{Entry, all_outputs, output_row, input_row, source_row, variable_row, tagged, output_rows, input_rows, source_rows, variable_rows, entries, named, present, formed_output, formed_input, formed_source, formed, different_output, different_input, different_source, different_variable, different, FixedFile, blank, settled, output_name, short}
 use Rattle.derivation.specs.declared.question.Question.{Question}
 use Rattle.derivation.specs.declared.question.Question.TheVariants.{Present, Formed, Different, Fixed, Short}
+use Rattle.derivation.specs.declared.field.Field.TheVariants.{Outputs, Inputs, Sources, Environment}
 use Rattle.derivation.specs.declared.spot.Spot.{Spot}
 use Rattle.file_meaning.proofs.Lists.{throughout, tagged_all, each_row, rows_each}
 
@@ -43,18 +44,18 @@ module _ (Y : Entry → Type 0) (x : Tree derivation) where
       let rest : AllByRecursion P (srcs ++ vars) = all_second P ins (srcs ++ vars) after in
       record {
         whole = a.0;
-        outputs = throughout output 1 output_row Y _ [] x.0 (all_first P outs (ins ++ (srcs ++ vars)) a.1);
-        inputs = throughout input 2 input_row Y _ [] x.1.0 (all_first P ins (srcs ++ vars) after);
-        sources = throughout string 3 source_row Y _ [] x.1.1.0 (all_first P srcs vars rest);
-        variables = throughout variable 7 variable_row Y _ [] x.1.1.1.1.1.1 (all_second P srcs vars rest);
+        outputs = throughout output Outputs output_row Y _ [] x.0 (all_first P outs (ins ++ (srcs ++ vars)) a.1);
+        inputs = throughout input Inputs input_row Y _ [] x.1.0 (all_first P ins (srcs ++ vars) after);
+        sources = throughout string Sources source_row Y _ [] x.1.1.0 (all_first P srcs vars rest);
+        variables = throughout variable Environment variable_row Y _ [] x.1.1.1.1.1.1 (all_second P srcs vars rest);
       }
 
   join : Split Y x → AllByRecursion P (entries x)
   join s = (
     s.whole,
-    All-append P outs (ins ++ (srcs ++ vars)) (tagged_all output 1 output_row Y _ [] x.0 s.outputs)
-        (All-append P ins (srcs ++ vars) (tagged_all input 2 input_row Y _ [] x.1.0 s.inputs)
-        (All-append P srcs vars (tagged_all string 3 source_row Y _ [] x.1.1.0 s.sources) (tagged_all variable 7 variable_row Y _ [] x.1.1.1.1.1.1 s.variables))),
+    All-append P outs (ins ++ (srcs ++ vars)) (tagged_all output Outputs output_row Y _ [] x.0 s.outputs)
+        (All-append P ins (srcs ++ vars) (tagged_all input Inputs input_row Y _ [] x.1.0 s.inputs)
+        (All-append P srcs vars (tagged_all string Sources source_row Y _ [] x.1.1.0 s.sources) (tagged_all variable Environment variable_row Y _ [] x.1.1.1.1.1.1 s.variables))),
   )
 
 -- every row is fixed by the whole, or is blank: the whole is fixed, or all are blank

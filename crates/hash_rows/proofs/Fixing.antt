@@ -1,25 +1,15 @@
 -- Rows by property: there are some, and only one list of them.
-use Rattle.std.proofs.Common.{◌≡◌, ℕ, zero, suc, ◌<◌, ◌⊎◌, List, [], ◌∷◌, ◌++◌, length, set, sym, refl, subst, inl, inr, arith}
-use Rattle.std.proofs.lemmas.Bool.{cases_order}
+use Rattle.std.proofs.Common.{◌≡◌, ℕ, zero, suc, ◌<◌, ◌⊎◌, List, [], ◌∷◌, ◌++◌, length, set, sym, subst, inl, inr, arith}
 use Rattle.std.proofs.lemmas.List.{append_assoc, append-nil}
 use Rattle.std.specs.List.{insert}
 use Rattle.canonical.specs.Order.{Under}
-use Rattle.canonical.proofs.Orders.{under_not_self, under_trans}
-use Rattle.hash_rows.proofs.Rising.{above_in, rising_inserted, placed_inserted, rising_set, placed_set}
+use Rattle.canonical.proofs.Members.{one_rising}
+use Rattle.canonical.proofs.Orders.{trichotomy}
+use Rattle.hash_rows.proofs.Rising.{rising_inserted, placed_inserted, rising_set, placed_set}
 use Rattle.hash_rows.proofs.Gathering.{gathered_none, gathered_more}
-use Rattle.hash_rows.specs.Keyed.{In, Iff, Rising, key_at, Free, Placed, Gathered, Fixed}
+use Rattle.hash_rows.specs.Keyed.{Rising, key_at, Free, Placed, Gathered, Fixed}
 
 module _ {X : Type 0} (key : X → List ℕ) (none : X) where
-  in_order : (a b : List ℕ) → Under a b ⊎ ((a ≡ b) ⊎ Under b a)
-  in_order [] [] = inr (inl refl)
-  in_order [] (y ∷ b) = inl tt
-  in_order (x ∷ a) [] = inr (inr tt)
-  in_order (x ∷ a) (y ∷ b) = elim (cases_order x y) [
-    | inl e ↦ elim (in_order a b)
-        [ inl u ↦ inl (inr (e, u)) | inr r ↦ elim r [ inl f ↦ inr (inl (cc)) | inr u ↦ inr (inr (inr (sym e, u))) ] ]
-    | inr r ↦ elim r [ inl l ↦ inl (inl l) | inr g ↦ inr (inr (inl g)) ]
-  ]
-
   -- a hash stands at some place, or some place is free for it
   abbrev Spot : List ℕ → List X → Type 0
   Spot h xs = ((i : ℕ) × (i < length xs) × (key_at key none xs i ≡ h)) ⊎ ((i : ℕ) × Free key none xs h i)
@@ -43,7 +33,7 @@ module _ {X : Type 0} (key : X → List ℕ) (none : X) where
 
   spot : (h : List ℕ) (xs : List X) → Spot h xs
   spot h [] = inr (0, record { within = omega arith; lower = λ k l. absurd (omega arith); higher = λ l. absurd (omega arith) })
-  spot h (y ∷ xs) = spot_more h y xs (in_order h (key y)) (spot h xs)
+  spot h (y ∷ xs) = spot_more h y xs (trichotomy h (key y)) (spot h xs)
 
   placed : (x : X) (xs : List X) → Rising key xs → (ys : List X) × Rising key ys × Placed key xs x ys
   placed x xs r = elim (spot (key x) xs) [
@@ -58,31 +48,8 @@ module _ {X : Type 0} (key : X → List ℕ) (none : X) where
       let z = from ps (qs ++ p ∷ []) w.0 w.1 (gathered_more key qs xs w.0 p g w.2) in
       (z.0, z.1, subst (λ (q : List X). Gathered key q z.0) (append_assoc qs (p ∷ []) ps) z.2)
 
-  -- rising rows are known by their members
-  tails : (x : X) (xs ys : List X) → Rising key (x ∷ xs) → (z : X) → In z xs → In z (x ∷ ys) → In z ys
-  tails x xs ys r z i (inr j) = j
-  tails x xs ys r z i (inl e) = absurd (under_not_self (key x) (subst (λ (w : X). Under (key x) (key w)) e (above_in key none (key x) xs r.0 z i)))
-
-  heads : (x y : X) (xs ys : List X) → Rising key (x ∷ xs) → Rising key (y ∷ ys) → In x (y ∷ ys) → In y (x ∷ xs) → x ≡ y
-  heads x y xs ys r s (inl e) j = e
-  heads x y xs ys r s (inr i) (inl e) = sym e
-  heads x y xs ys r s (inr i) (inr j) =
-      absurd (under_not_self (key x) (under_trans (key x) (key y) (key x) (above_in key none (key x) xs r.0 y j) (above_in key none (key y) ys s.0 x i)))
-
-  same_rows : (xs ys : List X) → Rising key xs → Rising key ys → ((z : X) → Iff (In z xs) (In z ys)) → xs ≡ ys
-  same_rows [] [] r s m = refl
-  same_rows [] (y ∷ ys) r s m = absurd ((m y).1 (inl refl))
-  same_rows (x ∷ xs) [] r s m = absurd ((m x).0 (inl refl))
-  same_rows (x ∷ xs) (y ∷ ys) r s m =
-      let e : x ≡ y = heads x y xs ys r s ((m x).0 (inl refl)) ((m y).1 (inl refl)) in
-      let f : xs ≡ ys = same_rows xs ys r.1 s.1 (λ z. (
-        λ i. tails x xs ys r z i (subst (λ (w : X). In z (w ∷ ys)) (sym e) ((m z).0 (inr i))),
-        λ i. tails y ys xs s z i (subst (λ (w : X). In z (w ∷ xs)) e ((m z).1 (inr i))),
-      )) in
-      cc
-
   pub rows_fixed : (ps : List X) → Fixed key ps
   rows_fixed ps = record {
     some = from ps [] [] tt (gathered_none key);
-    one = λ xs ys r s g h. same_rows xs ys r s (λ z. (λ i. (h.last z).1 ((g.last z).0 i), λ i. (g.last z).1 ((h.last z).0 i)));
+    one = λ xs ys r s g h. one_rising key xs ys r s (record { there = λ z i. (h.last z).1 ((g.last z).0 i); back = λ z i. (g.last z).1 ((h.last z).0 i) });
   }

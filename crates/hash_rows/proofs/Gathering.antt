@@ -1,21 +1,12 @@
 -- From pairs to rows, one more pair at a time.
 use Rattle.std.proofs.Common.{◌≡◌, ℕ, ◌⊎◌, List, [], ◌∷◌, ◌++◌, sym, refl, ap, ◌∙◌, subst, inl, inr, arith}
-use Rattle.std.proofs.lemmas.Bool.{cases_eq}
 use Rattle.std.proofs.lemmas.List.{append_assoc, same_from_push}
+use Rattle.canonical.proofs.Orders.{same_or_not}
 use Rattle.hash_rows.specs.Keyed.{In, Iff, Has, Placed, Last, Gathered}
 
 module _ {X : Type 0} (key : X → List ℕ) where
   clash : ◌≡◌ {A = ℕ} 0 1 → ⊥
   clash e = omega arith
-
-  same? : (a b : List ℕ) → (a ≡ b) ⊎ (a ≡ b → ⊥)
-  same? [] [] = inl refl
-  same? [] (y ∷ ys) = inr (λ e. clash (cc))
-  same? (x ∷ xs) [] = inr (λ e. clash (cc))
-  same? (x ∷ xs) (y ∷ ys) = elim (cases_eq x y) [
-    | inr ne ↦ inr (λ e. ne (cc))
-    | inl e ↦ elim (same? xs ys) [ inl f ↦ inl (cc) | inr ne ↦ inr (λ g. ne (cc)) ]
-  ]
 
   push_in : (x : X) (ps : List X) (y : X) → Iff (In y (ps ++ x ∷ [])) (In y ps ⊎ (y ≡ x))
   push_in x [] y = (λ m. elim m [ inl e ↦ inr e | inr k ↦ inl k ], λ m. elim m [ inl k ↦ inr k | inr e ↦ inl e ])
@@ -83,7 +74,7 @@ module _ {X : Type 0} (key : X → List ℕ) where
       here h e = (x, (p x).1 (inl refl), e)
 
       kept : (h : List ℕ) → Has key h xs → Has key h ys
-      kept h (y, m, e) = elim (same? (key y) (key x))
+      kept h (y, m, e) = elim (same_or_not (key y) (key x))
           [ inl s ↦ here h (sym s ∙ e) | inr ne ↦ (y, (p y).1 (inr (m, ne)), e) ]
 
       back : (h : List ℕ) → Has key h (ps ++ x ∷ []) → Has key h ys

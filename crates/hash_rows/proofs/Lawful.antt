@@ -1,5 +1,4 @@
-use Rattle.std.proofs.Common.{◌≡◌, ℕ, ◌⊎◌, List, [], ◌∷◌, ◌++◌, sym, refl, ap, ◌∙◌, subst, inl, inr, arith}
-use Rattle.std.proofs.lemmas.List.{length-take-le}
+use Rattle.std.proofs.Common.{◌≡◌, ℕ, ◌⊎◌, List, [], ◌∷◌, ◌++◌, sym, refl, ap, ◌∙◌, subst, inl, inr}
 use Rattle.canonical.specs.Order.{Under}
 use Rattle.hash_rows.specs.Keyed.{In, Last}
 use Rattle.hash_rows.specs.Rows.{key, no_row, Rising}
@@ -18,7 +17,7 @@ once (z ∷ xs) r x y (inr i) (inr j) e = once xs r.1 x y i j e
 
 pub rows_ordered : RowsOrdered
 rows_ordered t = record {
-  few = omega (arith, length-take-le t.len t.rows (omega (arith, t.wide, t.few)), t.few);
+  few = t.few;
   rising = rises_rising key no_row (held t) t.rising;
   once = once (held t) (rises_rising key no_row (held t) t.rising);
 }

@@ -2,6 +2,7 @@
 use Rattle.std.proofs.Common.{◌≡◌, ℕ, zero, suc, ◌<◌, ◌⊎◌, List, [], ◌∷◌, length, get_or, set, sym, refl, ap, ◌∙◌, subst, inl, inr, arith}
 use Rattle.std.specs.List.{insert}
 use Rattle.canonical.specs.Order.{Under}
+use Rattle.canonical.proofs.Members.{member_all}
 use Rattle.canonical.proofs.Orders.{under_trans}
 use Rattle.hash_rows.proofs.Orders.{before_not_same, test_before, before_test}
 use Rattle.hash_rows.specs.Keyed.{In, Iff, Above, Rising, key_at, Free, Rises, Placed}
@@ -12,9 +13,7 @@ module _ {X : Type 0} (key : X → List ℕ) (none : X) where
   above_trans g h (x ∷ xs) b a = (under_trans g h (key x) b a.0, above_trans g h xs b a.1)
 
   pub above_in : (h : List ℕ) (xs : List X) → Above key h xs → (y : X) → In y xs → Under h (key y)
-  above_in h [] a y i = absurd i
-  above_in h (x ∷ xs) a y (inl e) = subst (λ (z : X). Under h (key z)) (sym e) a.0
-  above_in h (x ∷ xs) a y (inr i) = above_in h xs a.1 y i
+  above_in h xs a y i = member_all (λ x. Under h (key x)) xs y a i
 
   -- a free place: h stands before all that is there
   free_first : (h : List ℕ) (xs : List X) → Rising key xs → Free key none xs h 0 → Above key h xs

@@ -1,6 +1,8 @@
 -- Rows of any kind, each with a key: rising rows, one row put among them, and the last of each key.
 -- Source: this project's own rule: the rows of a hash text rise by hash, and of equal hashes the last row stands (docs/FORMATS.md, "Hashes modulo inputs").
-use Rattle.std.specs.Prelude.{◌≡◌, ℕ, suc, ◌<◌, ◌≤◌, true, ◌⊎◌, List, [], ◌∷◌, ◌++◌, length, ◌≢◌, slice_index_or}
+use Rattle.std.specs.Prelude.{◌≡◌, ℕ, suc, ◌<◌, ◌≤◌, true, ◌⊎◌, List, ◌∷◌, ◌++◌, length, ◌≢◌, slice_index_or}
+use Rattle.std.specs.List.{AllByRecursion}
+use Rattle.canonical.specs.Order as order
 use Rattle.canonical.specs.Order.{Under}
 use Rattle.hash_rows.specs.Order.{before}
 
@@ -8,18 +10,15 @@ abbrev pub Iff : Type 0 → Type 0 → Type 0
 Iff P Q = (P → Q) × (Q → P)
 
 abbrev pub In : {X : Type 0} → X → List X → Type 0
-In a [] = ⊥
-In a (x ∷ xs) = (a ≡ x) ⊎ In a xs
+In a xs = order.Member a xs
 
 module _ {X : Type 0} (key : X → List ℕ) where
   -- h stands before each key of the rows
   abbrev pub Above : List ℕ → List X → Type 0
-  Above h [] = Unit {0}
-  Above h (x ∷ xs) = Under h (key x) × Above h xs
+  Above h xs = AllByRecursion (λ x. Under h (key x)) xs
 
   abbrev pub Rising : List X → Type 0
-  Rising [] = Unit {0}
-  Rising (x ∷ xs) = Above (key x) xs × Rising xs
+  Rising xs = order.Rising key xs
 
   -- the rows ys are the rows xs without those of x's key, and x
   abbrev pub Placed : List X → X → List X → Type 0

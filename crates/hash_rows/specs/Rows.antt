@@ -1,6 +1,6 @@
 -- The table's rows, by hash.
 -- Source: this project's own rule (docs/FORMATS.md, "Hashes modulo inputs").
-use Rattle.std.specs.Prelude.{◌≡◌, ℕ, ◌<◌, ◌≤◌, List, length, replicate, Some, None, Ok, Err, Option, Result, slice_index_or, refl}
+use Rattle.std.specs.Prelude.{◌≡◌, ℕ, ◌<◌, List, length, replicate, Ok, Err, Result, refl}
 use Rattle.hash_rows.specs.Keyed as keyed
 use Rattle.hash_rows.specs.declared.hash.Hash.{Hash}
 use Rattle.hash_rows.specs.declared.hash.HashRow.{HashRow}
@@ -36,8 +36,3 @@ Placed xs x ys = keyed.Placed key xs x ys
 
 abbrev pub Gathered : List HashRow → List HashRow → Type 0
 Gathered ps xs = keyed.Gathered key ps xs
-
--- the row at a place, if there is one
-abbrev pub RowAt : List HashRow → ℕ → Option HashRow → Type 0
-RowAt xs i None = length xs ≤ i
-RowAt xs i (Some x) = (i < length xs) × (x ≡ slice_index_or xs i no_row)

@@ -1,6 +1,6 @@
 -- Which images have a chain of slots that comes to its end, and which index is the first that breaks it.
 -- Source: this project's own format (docs/FORMATS.md, "Image").
-use Rattle.std.specs.Prelude.{◌≡◌, ℕ, ◌+◌, ◌*◌, ◌<◌, ◌≤◌, List, length, ◌≢◌, slice_index}
+use Rattle.std.specs.Prelude.{◌≡◌, ℕ, ◌+◌, ◌*◌, ◌<◌, ◌≤◌, List, length, ◌≢◌}
 use Rattle.image.specs.Layout.{slot_count, link, holder}
 
 -- an image has 4 to 4,194,304 bytes
@@ -31,9 +31,3 @@ pub record BadLink (img : List ℕ) (slot : ℕ) : Type 0 where
   pub goes_on : 0 < link img after
   pub bad : Good img after → ⊥
   pub holds : slot ≡ holder img after
-
--- the table holds the slots of the chain in their order
-pub record Walked (img slots : List ℕ) : Type 0 where
-  pub slotted : Slotted img
-  pub good : (m : ℕ) → m < length slots → Good img m
-  pub are : (m : ℕ) → m < length slots → slice_index slots m ≡ link img m

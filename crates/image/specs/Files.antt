@@ -10,15 +10,15 @@ use Rattle.image.specs.declared.refusal.Refusal.{Refusal}
 
 -- the bytes of an image that has opened, and how many files it has
 abbrev pub bytes_of : Image → List ℕ
-bytes_of image = image.bytes.now
+bytes_of image = image.chain.bytes.now
 
 abbrev pub files_of : Image → ℕ
-files_of image = image.count
+files_of image = image.chain.count
 
--- an image that was opened on bytes that are lent answers r and is `after`: over the same loan, or what it was before
-abbrev pub Opened : {T : Type 0} → Image → Bor (List ℕ) → Result T Refusal → Image → Type 0
-Opened before bytes (Ok _) after = (after.bytes ≡ bytes) × Opens bytes.now (files_of after)
-Opened before bytes (Err e) after = (after ≡ before) × Refused bytes.now e
+-- opening the bytes that are lent answers r: an image over the same loan, or the refusal
+abbrev pub Opened : Bor (List ℕ) → Result Image Refusal → Type 0
+Opened bytes (Ok image) = (image.chain.bytes ≡ bytes) × Opens bytes.now (files_of image)
+Opened bytes (Err e) = Refused bytes.now e
 
 -- the file k of an image is there exactly where the image has so many
 abbrev pub FileAt : List ℕ → ℕ → ℕ → Option File → Type 0

@@ -1,4 +1,5 @@
 pub mod Chain
 pub mod Files
+pub mod InOrder
 pub mod Layout
 pub mod Opening

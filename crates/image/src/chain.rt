@@ -1,44 +1,96 @@
 // The chain of slots, followed from the header to index zero.
-ghost use Rattle.std.specs.Prelude.{◌≡◌, ℕ, ◌+◌, ◌*◌, ◌<◌, ◌≤◌, length, Decides, MatchResult, slice_index};
+ghost use Rattle.std.specs.Prelude.{◌≡◌, ℕ, ◌+◌, ◌*◌, ◌<◌, ◌≤◌, length, Decides, MatchResult, MatchOption, slice_index};
 ghost use Rattle.std.specs.List.{ContainsAt as Has};
 ghost use Rattle.image.specs.Layout.{slot_count, link};
-ghost use Rattle.image.specs.Chain.{Sized, Slotted, Chained, BadLink};
+ghost use Rattle.image.specs.Chain.{Sized, Slotted, Chained};
+ghost use Rattle.image.specs.Opening.{Refused};
 
-use crate::fields;
+use crate::fields::le16_at;
+use crate::refusal::Refusal;
+use crate::slot::Slot;
 
-// The slots of the chain in order, of which the first `count` stand.
+// The bytes of an image, kept by reference, and the slots of its chain in order: the first `count` of a table.
+// A table with a length: the library crates use no heap, and an image can be copied, which an `ArrayVec` cannot.
 #[derive(Clone, Copy)]
-pub struct Chain {
-    pub slots: [u16; 256],
+pub struct Chain<'a> {
+    pub bytes: &'a [u8],
+    slots: [u16; 256],
     pub count: usize,
     ghost wide: { length slots ≡ 256 },
+    ghost few: { count ≤ 256 },
+    ghost are: { (m : ℕ) → m < count → slice_index slots m ≡ link bytes.now m },
+    ghost some: { (m : ℕ) → m < count → 0 < link bytes.now m },
+    ghost within: { (m : ℕ) → m < count → 4 + 16 * link bytes.now m ≤ length bytes.now },
 }
 
 // Whether an index is that of a slot, and of one that the chain has not had before.
 fn may_follow(before: &[u16], count: u16, index: u16) -> bool
     ensures { Decides result ((index ≤ count) × (Has before.now index → ⊥)) }
 {
-    (index <= count) & !before.contains(&index)
+    index <= count && !before.contains(&index)
 }
 
-// The chain, or the slot that holds its first bad index.
-pub fn follow(bytes: &[u8]) -> Result<Chain, u16>
-    requires { (Sized bytes.now) × (Slotted bytes.now) }
-    ensures { MatchResult result (λ c. Chained bytes.now c.count × (c.count ≤ 256) × ((m : ℕ) → m < c.count → slice_index c.slots m ≡ link bytes.now m)) (λ slot. BadLink bytes.now slot) }
-{
-    let count = fields::le16_at(bytes, 0);
-    let mut slots = [0u16; 256];
-    let mut n = 0;
-    let mut slot = 0;
-    let mut index = fields::le16_at(bytes, 2);
-    while index != 0 {
-        if !may_follow(&slots[0..n], count, index) {
-            return Err(slot);
+impl<'a> Chain<'a> {
+    // The chain of no slots.
+    pub fn empty(bytes: &'a [u8]) -> Chain<'a>
+        ensures bytes { result.bytes ≡ bytes.entry }
+        ensures count { result.count ≡ 0 }
+    {
+        Chain {
+            bytes,
+            slots: [0; 256],
+            count: 0,
         }
-        slots[n] = index;
-        n += 1;
-        slot = index;
-        index = fields::next_of(bytes, index);
     }
-    Ok(Chain { slots, count: n })
+
+    // The chain of an image, or the slot that holds its first bad index.
+    pub fn follow(bytes: &'a [u8]) -> Result<Chain<'a>, Refusal>
+        requires { (Sized bytes.now) × (Slotted bytes.now) }
+        ensures { MatchResult result (λ c. (c.bytes ≡ bytes.entry) × Chained bytes.entry.now c.count) (Refused bytes.entry.now) }
+    {
+        let last = le16_at(bytes, 0);
+        let mut slots = [0u16; 256];
+        let mut count = 0;
+        let mut slot = 0;
+        let mut index = le16_at(bytes, 2);
+        // Each index stands in the slot before it, so there is nothing to go through but the chain itself.
+        while index != 0 {
+            if !may_follow(&slots[0..count], last, index) {
+                return Err(Refusal::Link(slot));
+            }
+            slots[count] = index;
+            count += 1;
+            slot = index;
+            let here = Slot { bytes, index };
+            index = here.next();
+        }
+        Ok(Chain {
+            bytes,
+            slots,
+            count,
+        })
+    }
+
+    // The slot after n links.
+    pub fn get(&self, n: usize) -> Option<Slot<'a>>
+        ensures { MatchOption result (self.now.count ≤ n) (λ s. (n < self.now.count) × (s.bytes ≡ self.now.bytes) × (s.index ≡ link self.now.bytes.now n)) }
+    {
+        if n < self.count {
+            Some(self.slot(n))
+        } else {
+            None
+        }
+    }
+
+    // The same where it is there.
+    pub fn slot(&self, n: usize) -> Slot<'a>
+        requires { n < self.now.count }
+        ensures { (result.bytes ≡ self.now.bytes) × (result.index ≡ link self.now.bytes.now n) }
+    {
+        let index = self.slots[n];
+        Slot {
+            bytes: self.bytes,
+            index,
+        }
+    }
 }

@@ -1,19 +1,15 @@
 // An image that has opened.
-ghost use Rattle.std.specs.Prelude.{◌≡◌, ℕ, ◌<◌, length, slice_index};
-ghost use Rattle.image.specs.Layout.{link};
 ghost use Rattle.image.specs.Opening.{Opens};
+
+use crate::chain::Chain;
 
 pub mod open;
 
-// The bytes, kept by reference, and the slots of the chain in order, of which the first `count` stand.
+// The chain of its slots, over bytes that are kept by reference.
 #[derive(Clone, Copy)]
 pub struct Image<'a> {
-    bytes: &'a [u8],
-    slots: [u16; 256],
-    count: usize,
-    ghost wide: { length slots ≡ 256 },
-    ghost are: { (m : ℕ) → m < count → slice_index slots m ≡ link bytes.now m },
-    ghost opens: { ∥ Opens bytes.now count ∥₁ },
+    chain: Chain<'a>,
+    ghost opens: { ∥ Opens chain.bytes.now chain.count ∥₁ },
 }
 
 // One file of an image: its store path and its text.

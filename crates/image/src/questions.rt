@@ -1,35 +1,31 @@
 // The questions that are put to each file of the chain in turn.
-ghost use Rattle.std.specs.Prelude.{◌≡◌, ℕ, ◌<◌, List, length, Decides, MatchOption};
-ghost use Rattle.store_path.specs.Names.{StorePath, Drv};
-ghost use Rattle.image.specs.Chain.{Walked};
-ghost use Rattle.image.specs.Layout.{path_in, link};
-ghost use Rattle.image.specs.Opening.{Inside, Named, New, InsideAt, NamedAt, Every, FirstNo};
+ghost use Rattle.std.specs.Prelude.{◌≡◌, ℕ, ◌<◌, List, Decides, MatchResult};
+ghost use Rattle.image.specs.Opening.{New, InsideAt, NamedAt, Every, FirstNo};
 
-use crate::fields;
+use crate::chain::Chain;
 use store_path::{ends_with_drv, is_store_path};
 
 // A question to the file after n links, which may lean on what earlier questions found.
+// A trait and not a closure: `given` and `holds` say what the answer leans on and means, which a closure has no place for.
 pub trait Ask {
     ghost given: { List ℕ → ℕ → Type 0 };
 
     ghost holds: { List ℕ → ℕ → Type 0 };
 
-    fn says(&self, bytes: &[u8], slots: &[u16], n: usize) -> bool
-        requires { (Walked bytes.now slots.now) × ((given bytes.now (length slots.now)) × (n < length slots.now)) }
-        ensures { Decides result (holds bytes.now n) };
+    fn says(&self, chain: &Chain<'_>, n: usize) -> bool
+        requires { (given chain.now.bytes.now chain.now.count) × (n < chain.now.count) }
+        ensures { Decides result (holds chain.now.bytes.now n) };
 }
 
-// The first slot of the chain at which the answer is no.
-pub fn first_no<Q: Ask>(ask: &Q, bytes: &[u8], slots: &[u16]) -> Option<u16>
-    requires { (Walked bytes.now slots.now) × (Q.given bytes.now (length slots.now)) }
-    ensures { MatchOption result (Every (Q.holds bytes.now) (length slots.now)) (λ slot. FirstNo bytes.now (Q.holds bytes.now) (length slots.now) slot) }
+// Yes at every file of the chain, or the first slot at which the answer is no.
+pub fn ask_each<Q: Ask>(ask: &Q, chain: &Chain<'_>) -> Result<(), u16>
+    requires { Q.given chain.now.bytes.now chain.now.count }
+    ensures { MatchResult result (λ _. Every (Q.holds chain.now.bytes.now) chain.now.count) (λ slot. FirstNo chain.now.bytes.now (Q.holds chain.now.bytes.now) chain.now.count slot) }
 {
-    for n in 0..slots.len() {
-        if !ask.says(bytes, slots, n) {
-            return Some(slots[n]);
-        }
+    match (0..chain.count).find(|n| !ask.says(chain, *n)) {
+        Some(n) => Err(chain.slot(n).index),
+        None => Ok(()),
     }
-    None
 }
 
 // Does the file lie inside the image?
@@ -40,8 +36,8 @@ impl Ask for AskInside {
 
     ghost holds = { InsideAt };
 
-    fn says(&self, bytes: &[u8], slots: &[u16], n: usize) -> bool {
-        fields::is_inside(bytes, slots[n])
+    fn says(&self, chain: &Chain<'_>, n: usize) -> bool {
+        chain.slot(n).is_inside()
     }
 }
 
@@ -53,9 +49,9 @@ impl Ask for AskNamed {
 
     ghost holds = { NamedAt };
 
-    fn says(&self, bytes: &[u8], slots: &[u16], n: usize) -> bool {
-        let path = fields::path_of(bytes, slots[n]);
-        is_store_path(path) & ends_with_drv(path)
+    fn says(&self, chain: &Chain<'_>, n: usize) -> bool {
+        let path = chain.slot(n).named_path();
+        is_store_path(path) && ends_with_drv(path)
     }
 }
 
@@ -67,13 +63,8 @@ impl Ask for AskNew {
 
     ghost holds = { New };
 
-    fn says(&self, bytes: &[u8], slots: &[u16], n: usize) -> bool {
-        let path = fields::path_of(bytes, slots[n]);
-        for m in 0..n {
-            if fields::path_of(bytes, slots[m]) == path {
-                return false;
-            }
-        }
-        true
+    fn says(&self, chain: &Chain<'_>, n: usize) -> bool {
+        let path = chain.slot(n).named_path();
+        !(0..n).any(|m| chain.slot(m).named_path() == path)
     }
 }

@@ -5,6 +5,7 @@ ghost use Rattle.image.specs.Opening.{refusal_number, refusal_slot};
 use crate::refusal::Refusal;
 
 impl Refusal {
+    // A match, since most variants carry a slot: `as` takes enums without fields alone.
     pub fn number(self) -> u8
         ensures { result ≡ refusal_number self }
     {

@@ -10,6 +10,7 @@ use Rattle.canonical.specs.Meanings.{an_output}
 use Rattle.canonical.specs.Order.{Member, Different}
 use Rattle.canonical.proofs.Members.{member_all}
 use Rattle.canonical.proofs.Spans.{span_means}
+use Rattle.derivation.specs.declared.field.Field.TheVariants.{Environment}
 use Rattle.derivation.proofs.Scan.{Split, Clean}
 use Rattle.hash_modulo.specs.Sets.{Bytes}
 use Rattle.right_paths.specs.declared.hashes.Digits.{Digits}
@@ -39,21 +40,21 @@ module _ (path text : Bytes) (os : List (Value an_output)) (ds : List Digits) (n
     value_there = span_means text _ u.value.value r.x.1 r.held.1
 
     there : Member r.x vs
-    there = row_there variable 7 at [] vs (spot variable (in_variable text) 7 at us vs i u r) (take i vs, r.x) (row_stands variable (in_variable text) 7 at us vs i u r)
+    there = row_there variable Environment at [] vs (spot variable (in_variable text) Environment at us vs i u r) (take i vs, r.x) (row_stands variable (in_variable text) Environment at us vs i u r)
 
     pub row_right : said_in text u.value.name ≡ n → RightFor path os ds n (said_in text u.value.value) → VariableTold path os ds at vs n None
     row_right e w = (r.x, there, sym name_there ∙ e, right_moved n n _ _ refl value_there w)
 
     pub row_wrong : Different (λ v. meaning v.0) vs → said_in text u.value.name ≡ n → (RightFor path os ds n (said_in text u.value.value) → ⊥)
-        → VariableTold path os ds at vs n (Some (spot variable (in_variable text) 7 at us vs i u r))
+        → VariableTold path os ds at vs n (Some (spot variable (in_variable text) Environment at us vs i u r))
     row_wrong d e bar = (
       λ z.
           let same : z.0 ≡ r.x = one_keyed (λ (v : Tree variable). meaning v.0) vs d z.0 r.x z.1 there (z.2 ∙ sym e ∙ name_there) in
           bar (right_moved n n _ _ refl (ap (λ (v : Tree variable). meaning v.1) same ∙ sym value_there) z.3),
-      here (take i vs, r.x) (row_stands variable (in_variable text) 7 at us vs i u r) (sym name_there ∙ e),
+      here (take i vs, r.x) (row_stands variable (in_variable text) Environment at us vs i u r) (sym name_there ∙ e),
     )
 
-  pub no_row : Clean variable (in_variable text) (Unnamed n) 7 at vs → VariableTold path os ds at vs n (Some (record { field = 7; row = 0; place = 0 }))
+  pub no_row : Clean variable (in_variable text) (Unnamed n) Environment at vs → VariableTold path os ds at vs n (Some (record { field = Environment; row = 0; place = 0 }))
   no_row c =
-      let none = each variable 7 (λ v. meaning v.0 ≡ n → ⊥) at [] vs c in
+      let none = each variable Environment (λ v. meaning v.0 ≡ n → ⊥) at [] vs c in
       (λ z. none z.0 z.1 z.2, nowhere none refl)

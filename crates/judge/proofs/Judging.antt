@@ -10,6 +10,7 @@ use Rattle.canonical.proofs.Home.{whole_once}
 use Rattle.canonical.proofs.Orders.{under_not_self}
 use Rattle.derivation.specs.Asked.{FirstNo, First}
 use Rattle.derivation.specs.Questions.{output_name, output_rows, place_7}
+use Rattle.derivation.specs.declared.field.Field.TheVariants.{Outputs}
 use Rattle.derivation.specs.declared.spot.Spot.{Spot}
 use Rattle.hash_modulo.specs.Hashes.{Digest}
 use Rattle.hash_modulo.specs.Paths.{file_name, OwnPath, OutputPath}
@@ -19,7 +20,7 @@ use Rattle.hash_modulo.proofs.Paths.{own_paths, output_paths}
 use Rattle.right_paths.specs.Worked.{full_store_path, no_digits, RightDigits}
 use Rattle.right_paths.specs.declared.hashes.Digits.{Digits}
 use Rattle.verdict.specs.Judged.{Behind, output_of, right_output, in_environment, VariableAt, at, nowhere as not_there, PathsJudged}
-use Rattle.verdict.specs.declared.fault.Verdict.{Verdict}
+use Rattle.verdict.specs.Verdicts.{Verdict}
 use Rattle.verdict.proofs.Meant.{output_there}
 use Rattle.verdict.proofs.Rows.{row_there}
 use Rattle.judge.specs.Stated.{StandsAt, here, nowhere, RightFor, VariableRight}
@@ -84,7 +85,7 @@ module _ (d : Digest) (p : Bytes) (g : Bytes → Bytes) (m : Meaning) (own : Lis
           record { index = z.0; within = z.1; right = (name, output_paths.one d p g g m (output_of t) q _ (λ r k. refl) a b) }
 
     row_of_outputs : (w : Spot) (e : Behind (Tree output)) → Member (w, e) (output_rows x) → Member e.1 x.0
-    row_of_outputs w e i = row_there output 1 8 [] x.0 w e i
+    row_of_outputs w e i = row_there output Outputs 8 [] x.0 w e i
 
     abbrev Stated : Behind (Tree output) → Type 0
     Stated e = RightFor p m.0 ds (meaning e.1.0) (meaning e.1.1.0)

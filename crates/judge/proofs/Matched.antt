@@ -2,7 +2,8 @@
 use Rattle.std.proofs.Common.{◌≡◌, ℕ, ◌+◌, ◌-◌, ◌^◌, ◌<◌, ◌≤◌, Bool, true, false, eqb, List, [], ◌∷◌, length, get_or, take, drop, Decides, sym, refl, ap, ◌∙◌, inl, inr, arith, eq-eqb, ne_eqb}
 use Rattle.std.proofs.lemmas.List.{take_more, drop_all, take-append-drop, length-take, length-drop}
 use Rattle.std.proofs.lemmas.Bool.{cond-true, cond-false, cond_both, cases_eq}
-use Rattle.canonical.specs.Decode.{decodes, said}
+use Rattle.aterm.specs.Meaning.{meant}
+use Rattle.canonical.specs.Decode.{said}
 use Rattle.sink.specs.Write.{Held, steps, filled, Taken, Stopped}
 use Rattle.sink.proofs.Writing.{parts, kept, steps_append}
 use Rattle.judge.specs.Matching.{matching, matched}
@@ -67,27 +68,27 @@ matched_taken s s' count count' bs e more fits =
 pub matched_kept : (s : List ℕ) (count : ℕ) (bs : List ℕ) → 2 ^ 128 - 1 - count < length bs → Stopped matching (matched s count) bs (matched s count)
 matched_kept s count bs past = kept matching (matched s count) (matched s count) bs (omega arith) past refl
 
--- the string was what was written, if the sink is through with it
-pub is_through : (r : Bool) (xs s ys : List ℕ) (count : ℕ) → matched s count ≡ filled matching (matched (0 ∷ xs) 0) ys → Decides r (s ≡ 0 ∷ []) → Decides r (xs ≡ ys)
+-- the string xs was what was written, if the sink is through with it
+pub is_through : (r : Bool) (xs left : List ℕ) → left ≡ xs → (s ys : List ℕ) (count : ℕ) → matched s count ≡ filled matching (matched (0 ∷ left) 0) ys → Decides r (s ≡ 0 ∷ []) → Decides r (xs ≡ ys)
 unfolding filled
-is_through r xs s ys count e d =
-    let after : s ≡ steps matching (0 ∷ xs) ys = ap (λ (h : Held). h.meaning.state) e in
-    (λ t. only_same xs ys (sym after ∙ d.0 t), λ q. d.1 (after ∙ all_same xs ys q))
+is_through r xs left same s ys count e d =
+    let after : s ≡ steps matching (0 ∷ left) ys = ap (λ (h : Held). h.meaning.state) e in
+    (λ t. sym same ∙ only_same left ys (sym after ∙ d.0 t), λ q. d.1 (after ∙ all_same left ys (same ∙ q)))
 
 -- ---- a string is not longer than its text
 
-decodes_short : (b : Bool) (bs : List ℕ) → length (decodes b bs) ≤ length bs
-decodes_short true [] = omega arith
-decodes_short false [] = omega arith
-decodes_short true (c ∷ bs) = let h = decodes_short false bs in omega arith
-decodes_short false (c ∷ bs) =
-    let h = decodes_short true bs in
-    let k = decodes_short false bs in
-    cond_both (eqb c 92) (decodes true bs) (c ∷ decodes false bs) (λ l. length l ≤ length (c ∷ bs)) (λ _. omega arith) (λ _. omega arith)
+meant_short : (b : Bool) (bs : List ℕ) → length (meant b bs) ≤ length bs
+meant_short true [] = omega arith
+meant_short false [] = omega arith
+meant_short true (c ∷ bs) = let h = meant_short false bs in omega arith
+meant_short false (c ∷ bs) =
+    let h = meant_short true bs in
+    let k = meant_short false bs in
+    cond_both (eqb c 92) (meant true bs) (c ∷ meant false bs) (λ l. length l ≤ length (c ∷ bs)) (λ _. omega arith) (λ _. omega arith)
 
 pub said_short : (t : List ℕ) (at stop : ℕ) → length (said t at stop) ≤ length t
 said_short t at stop =
-    let h = decodes_short false (take (stop - at) (drop at t)) in
+    let h = meant_short false (take (stop - at) (drop at t)) in
     let k = length-take (stop - at) (drop at t) in
     let l = length-drop at t in
     omega arith

@@ -11,6 +11,7 @@ use Rattle.canonical.specs.Files.{said_in}
 use Rattle.canonical.specs.Order.{Member}
 use Rattle.canonical.proofs.Spans.{span_means}
 use Rattle.derivation.specs.Asked.{FirstNo, rows_at}
+use Rattle.derivation.specs.declared.field.Field.{Field}
 use Rattle.derivation.specs.declared.spot.Spot.{Spot}
 use Rattle.derivation.proofs.Scan.{ends, rows_append, Split, split, Clean}
 
@@ -30,31 +31,31 @@ module _ {V : Type 0} (s : Shape) (H : ℕ → V → Tree s → Type 0) where
   pub split_at : (from : ℕ) (vs : List (Placed V)) (xs : List (Tree s)) (i : ℕ) (d : Placed V) → i < length vs → Each s H from vs xs → Split s H from vs xs i (get_or vs i d)
   split_at from vs xs i d h a = split s H from vs xs i h (get_or vs i d) (get_or_default vs i d (get_or vs i d) h) a
 
-  module _ (number from : ℕ) (vs : List (Placed V)) (xs : List (Tree s)) (i : ℕ) (v : Placed V) (r : Split s H from vs xs i v) where
+  module _ (field : Field) (from : ℕ) (vs : List (Placed V)) (xs : List (Tree s)) (i : ℕ) (v : Placed V) (r : Split s H from vs xs i v) where
     abbrev pub spot : Spot
-    spot = record { field = number; row = i + 1; place = v.place }
+    spot = record { field = field; row = i + 1; place = v.place }
 
     rows_after : List (Spot × (List (Tree s) × Tree s))
-    rows_after = rows_at s number (past s (ends s from (take i xs)) r.x) (take i xs ++ r.x ∷ []) r.after
+    rows_after = rows_at s field (past s (ends s from (take i xs)) r.x) (take i xs ++ r.x ∷ []) r.after
 
-    all_rows : rows_at s number from [] xs ≡ rows_at s number from [] (take i xs) ++ (spot, (take i xs, r.x)) ∷ rows_after
+    all_rows : rows_at s field from [] xs ≡ rows_at s field from [] (take i xs) ++ (spot, (take i xs, r.x)) ∷ rows_after
     unfolding rows_after
     all_rows =
-        ap (rows_at s number from []) r.whole
-        ∙ rows_append s number from [] (take i xs) (r.x ∷ r.after)
-        ∙ ap (λ w. rows_at s number from [] (take i xs) ++ (w, (take i xs, r.x)) ∷ rows_after) same
+        ap (rows_at s field from []) r.whole
+        ∙ rows_append s field from [] (take i xs) (r.x ∷ r.after)
+        ∙ ap (λ w. rows_at s field from [] (take i xs) ++ (w, (take i xs, r.x)) ∷ rows_after) same
       where
-        same : ◌≡◌ {A = Spot} (record { field = number; row = length (take i xs) + 1; place = ends s from (take i xs) }) spot
-        same = λ j. record { field = number; row = r.long j + 1; place = sym r.stands j }
+        same : ◌≡◌ {A = Spot} (record { field = field; row = length (take i xs) + 1; place = ends s from (take i xs) }) spot
+        same = λ j. record { field = field; row = r.long j + 1; place = sym r.stands j }
 
-    pub row_stands : Member (spot, (take i xs, r.x)) (rows_at s number from [] xs)
+    pub row_stands : Member (spot, (take i xs, r.x)) (rows_at s field from [] xs)
     row_stands =
-        subst (Member {X = Spot × (List (Tree s) × Tree s)} (spot, (take i xs, r.x))) (sym all_rows) (in_middle (spot, (take i xs, r.x)) (rows_at s number from [] (take i xs)) rows_after)
+        subst (Member {X = Spot × (List (Tree s) × Tree s)} (spot, (take i xs, r.x))) (sym all_rows) (in_middle (spot, (take i xs, r.x)) (rows_at s field from [] (take i xs)) rows_after)
 
     -- it is the first of which the answer is no
-    pub no_here : (Yes : List (Tree s) → Tree s → Type 0) → Clean s H Yes number from (take i xs) → (Yes (take i xs) r.x → ⊥)
-        → (f : FirstNo (λ e. Yes e.0 e.1) (rows_at s number from [] xs) spot) × (f.row ≡ (take i xs, r.x))
-    no_here Yes c n = (record { before = rows_at s number from [] (take i xs); row = (take i xs, r.x); after = rows_after; whole = all_rows; clean = c; refused = n }, refl)
+    pub no_here : (Yes : List (Tree s) → Tree s → Type 0) → Clean s H Yes field from (take i xs) → (Yes (take i xs) r.x → ⊥)
+        → (f : FirstNo (λ e. Yes e.0 e.1) (rows_at s field from [] xs) spot) × (f.row ≡ (take i xs, r.x))
+    no_here Yes c n = (record { before = rows_at s field from [] (take i xs); row = (take i xs, r.x); after = rows_after; whole = all_rows; clean = c; refused = n }, refl)
 
 -- what an output row says
 module _ (text : List ℕ) (from : ℕ) (vs : List (Placed Output)) (xs : List (Tree output)) (i : ℕ) (v : Placed Output) (r : Split output (in_output text) from vs xs i v) where

@@ -1,6 +1,6 @@
 -- Whether a path is the one told for an output of a name, output by output.
-use Rattle.std.proofs.Common.{◌≡◌, ℕ, ◌<◌, ◌≤◌, false, List, length, get_or, Decides, sym, ap, ◌∙◌, subst, arith}
-use Rattle.std.proofs.lemmas.List.{get_or-map, get_or_default, length-map}
+use Rattle.std.proofs.Common.{◌≡◌, ℕ, ◌<◌, List, length, get_or, sym, ap, ◌∙◌, subst}
+use Rattle.std.proofs.lemmas.List.{get_or-map, get_or_default}
 use Rattle.aterm.specs.declared.file.Output.{Output}
 use Rattle.aterm.specs.declared.rows.Placed.{Placed}
 use Rattle.canonical.specs.Files.{said_in, values, output_value}
@@ -12,9 +12,6 @@ use Rattle.hash_modulo.specs.Strings.{no_output}
 use Rattle.right_paths.specs.Worked.{full_store_path, no_digits}
 use Rattle.right_paths.specs.declared.hashes.Digits.{Digits}
 use Rattle.judge.specs.Stated.{RightAt, RightFor}
-
-pub refuted : {P : Type 0} → (P → ⊥) → Decides false P
-refuted f = (λ e. let z : ◌≡◌ {A = ℕ} 0 1 = cc in absurd (omega arith), λ p. absurd (f p))
 
 pub right_moved : {path : Bytes} {os : List (Value an_output)} {ds : List Digits} (a b p q : Bytes) → a ≡ b → p ≡ q → RightFor path os ds a p → RightFor path os ds b q
 right_moved {path} {os} {ds} a b p q e f w = subst (λ (n : Bytes). RightFor path os ds n q) e (subst (λ (z : Bytes). RightFor path os ds a z) f w)
@@ -31,19 +28,5 @@ module _ (path text : Bytes) (vs : List (Placed Output)) (ds : List Digits) (n q
     pub other_name : (said_in text (get_or vs i d).value.name ≡ n → ⊥) → RightAt path (values (output_value text) vs) ds n q i → ⊥
     other_name ne w = ne (sym name_here ∙ w.0)
 
-  module _ (i : ℕ) (d : Placed Output) (f : Digits) (h : i < length vs) (k : i < length ds) where
-    pub right_here : said_in text (get_or vs i d).value.name ≡ n → q ≡ full_store_path (get_or ds i f).bytes (output_name path n) → RightFor path (values (output_value text) vs) ds n q
-    right_here e is = record {
-      index = i;
-      within = omega (arith, length-map vs (λ (v : Placed Output). output_value text v.value));
-      right = (name_here i d h ∙ e, is ∙ digits_there ds i f (output_name path n) k);
-    }
-
   pub other_path : (i : ℕ) (f : Digits) → i < length ds → (q ≡ full_store_path (get_or ds i f).bytes (output_name path n) → ⊥) → RightAt path (values (output_value text) vs) ds n q i → ⊥
   other_path i f k ne w = ne (w.1 ∙ sym (digits_there ds i f (output_name path n) k))
-
-  pub none_right : (k : ℕ) → length vs ≤ k → ((i : ℕ) → i < k → RightAt path (values (output_value text) vs) ds n q i → ⊥) → (all : List (Placed Output)) → vs ≡ all
-      → Decides false (RightFor path (values (output_value text) all) ds n q)
-  none_right k h none all e =
-      subst (λ (l : List (Placed Output)). Decides false (RightFor path (values (output_value text) l) ds n q)) e
-      (refuted (λ w. none w.index (omega (arith, w.within, length-map vs (λ (v : Placed Output). output_value text v.value))) w.right))

@@ -2,7 +2,8 @@
 -- Source: this project's own rule (docs/CALLS.md, "Verdict"), over the definition of a sink (docs/FORMATS.md, "Sinks").
 use Rattle.std.specs.Prelude.{ℕ, ◌-◌, ◌%◌, ◌^◌, ◌<◌, cond, List, [], ◌∷◌, Some, None, Option, ◌==◌}
 use Rattle.std.proofs.Common.{arith}
-use Rattle.canonical.specs.Decode.{said}
+use Rattle.aterm.specs.Meaning.{meant_left}
+use Rattle.aterm.specs.declared.meant.Meant.{Meant}
 use Rattle.sink.specs.Write.{Step, Held}
 
 -- a state has a number and the bytes to come, and nothing once another byte came
@@ -11,10 +12,10 @@ matching [] b = []
 matching (f ∷ []) b = []
 matching (f ∷ x ∷ xs) b = cond (x == b) (f ∷ xs) []
 
--- the bytes to come of a string that goes on at a place, up to its end
-abbrev pub expected : List ℕ → ℕ → Option ℕ → List ℕ
-expected t stop None = []
-expected t stop (Some at) = 0 ∷ said t at stop
+-- the bytes to come of a string that was matched so far
+abbrev pub expected : Option Meant → List ℕ
+expected None = []
+expected (Some rest) = 0 ∷ meant_left rest
 
 -- a sink that took so many bytes; it takes as many as a count of 128 bits holds
 abbrev pub matched : List ℕ → ℕ → Held

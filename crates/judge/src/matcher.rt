@@ -1,37 +1,28 @@
-// A sink that holds what is written against what a string of the text means.
+// A sink that holds what is written against a string of the text.
 ghost use Rattle.std.specs.Prelude.{◌≡◌, [], ◌∷◌, Decides};
-ghost use Rattle.canonical.specs.Decode.{said};
+ghost use Rattle.right_paths.specs.Views.{said_by};
 ghost use Rattle.sink.specs.Write.{steps};
 ghost use Rattle.judge.specs.Matching.{matching, expected, matched, matched_wraps};
 
-use aterm::Span;
-use canonical::next;
-use right_paths::ToSink;
-use sink::{Full, Sink};
+use aterm::Meant;
+use right_paths::Said;
+use sink::{Full, Sink, ToSink};
 
-// `at` is where the string goes on; None once another byte was written.
+// `rest` is what is still to come of the string; None once another byte was written.
 #[derive(Clone, Copy)]
 pub struct Matcher<'a> {
-    text: &'a [u8],
-    at: Option<usize>,
-    end: usize,
+    rest: Option<Meant<'a>>,
     count: u128,
 }
 
-// Where the string goes on after these bytes.
-fn pass(text: &[u8], at: Option<usize>, end: usize, bytes: &[u8]) -> Option<usize>
-    ensures { expected text.now «end» result ≡ steps matching (expected text.now «end» at) bytes.now }
+// What is still to come of the string after these bytes.
+fn pass<'a>(rest: Option<Meant<'a>>, bytes: &[u8]) -> Option<Meant<'a>>
+    ensures { expected result ≡ steps matching (expected rest.entry) bytes.now }
 {
-    let mut here = at?;
+    let mut here = rest?;
     for b in bytes {
-        match next(text, here, end) {
-            Some((x, after)) => {
-                if x != *b {
-                    return None;
-                }
-                here = after;
-            }
-            None => return None,
+        if here.next()? != *b {
+            return None;
         }
     }
     Some(here)
@@ -40,44 +31,38 @@ fn pass(text: &[u8], at: Option<usize>, end: usize, bytes: &[u8]) -> Option<usiz
 impl<'a> Sink for Matcher<'a> {
     ghost step = { matching };
 
-    ghost held = { λ s. matched (expected s.text.now s.end s.at) s.count };
+    ghost held = { λ s. matched (expected s.rest) s.count };
 
-    ghost wraps = { λ s. matched_wraps (expected s.text.now s.end s.at) s.count };
+    ghost wraps = { λ s. matched_wraps (expected s.rest) s.count };
 
     fn write(&mut self, bytes: &[u8]) -> Result<(), Full> {
-        match self.count.checked_add(bytes.len() as u128) {
-            Some(count) => {
-                self.at = pass(self.text, self.at, self.end, bytes);
-                self.count = count;
-                Ok(())
-            }
-            None => Err(Full),
-        }
+        let count = self.count.checked_add(bytes.len() as u128).ok_or(Full)?;
+        self.rest = pass(self.rest, bytes);
+        self.count = count;
+        Ok(())
     }
 }
 
 // Whether all of the string was written, and nothing else.
-fn is_through(text: &[u8], at: Option<usize>, end: usize) -> bool
-    ensures { Decides result (expected text.now «end» at ≡ 0 ∷ []) }
+fn is_through(rest: Option<Meant<'_>>) -> bool
+    ensures { Decides result (expected rest.entry ≡ 0 ∷ []) }
 {
-    match at {
-        Some(here) => next(text, here, end).is_none(),
+    match rest {
+        Some(mut here) => here.next().is_none(),
         None => false,
     }
 }
 
 // Whether a string of the text means what `what` writes.
-pub fn means<T: ToSink>(text: &[u8], span: Span, what: &T) -> bool
-    ensures { Decides result (said text.now span.start span.«end» ≡ T.ToSink.bytes what.now) }
+pub fn means<T: ToSink>(string: Said<'_>, what: &T) -> bool
+    ensures { Decides result (said_by string.entry ≡ T.ToSink.bytes what.now) }
 {
     let mut matcher = Matcher {
-        text,
-        at: Some(span.start),
-        end: span.end,
+        rest: Some(string.span.meant(string.text)),
         count: 0,
     };
     match what.write_to(&mut matcher) {
-        Ok(()) => is_through(matcher.text, matcher.at, matcher.end),
+        Ok(()) => is_through(matcher.rest),
         // Nothing that stands in a text is so long.
         Err(_) => false,
     }

@@ -4,29 +4,35 @@ ghost use Rattle.aterm.specs.Files.{output, in_output};
 ghost use Rattle.aterm.specs.Grammar.{meaning};
 ghost use Rattle.canonical.specs.Decode.{said};
 ghost use Rattle.derivation.specs.Asked.{Scans};
+ghost use Rattle.derivation.specs.declared.field.Field.TheVariants.{Outputs};
 ghost use Rattle.judge.specs.Stated.{Told};
 
 use crate::matcher::means;
 use crate::right_outputs::RightOutputs;
 use crate::right_path::RightPath;
 use aterm::{Output, Placed, Span};
-use canonical::compare;
-use derivation::Spot;
-use std::cmp::Ordering;
+use derivation::{Field, Spot};
+use right_paths::{OutputName, Said};
 
 // Whether `stated` means the right path of an output with this name.
 pub fn is_right(right: &RightOutputs, name: Span, stated: Span) -> bool
-    ensures { Decides result (Told right.now (said right.now.text.now name.start name.«end») (said right.now.text.now stated.start stated.«end»)) }
+    ensures { Decides result (Told right.now (said right.now.of.text.now name.start name.«end») (said right.now.of.text.now stated.start stated.«end»)) }
 {
-    for (i, output) in right.outputs.as_slice().iter().enumerate() {
-        if let Ordering::Equal = compare(right.text, output.value.name, name) {
-            let one = RightPath {
+    let file = &right.of;
+    let text = file.text;
+    let stated_path = Said { text, span: stated };
+    let out = Said { text, span: name };
+    let outputs = file.file.outputs.as_slice();
+    for (i, output) in outputs.iter().enumerate() {
+        if out.same(output.value.name) {
+            let path = RightPath {
                 digits: right.digits[i],
-                path: right.path,
-                text: right.text,
-                out: name,
+                name: OutputName {
+                    path: file.path,
+                    out,
+                },
             };
-            if means(right.text, stated, &one) {
+            if means(stated_path, &path) {
                 return true;
             }
         }
@@ -36,12 +42,12 @@ pub fn is_right(right: &RightOutputs, name: Span, stated: Span) -> bool
 
 // Where the first output row stands that states another path.
 pub fn first_wrong_output(right: &RightOutputs, rows: &[Placed<Output>]) -> Option<Spot>
-    ensures { Scans output (in_output right.now.text.now) (λ ys x. Told right.now (meaning x.0) (meaning x.1.0)) 1 rows.now result }
+    ensures { Scans output (in_output right.now.of.text.now) (λ ys x. Told right.now (meaning x.0) (meaning x.1.0)) Outputs rows.now result }
 {
     for (i, row) in rows.iter().enumerate() {
         if !is_right(right, row.value.name, row.value.path) {
             return Some(Spot {
-                field: 1,
+                field: Field::Outputs,
                 row: i + 1,
                 place: row.place,
             });

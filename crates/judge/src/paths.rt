@@ -16,51 +16,45 @@ use crate::right_outputs::RightOutputs;
 use crate::variables::first_wrong_variable;
 use aterm::Derivation;
 use canonical::first_difference;
-use right_paths::Digits;
+use right_paths::{Digits, SortedFile};
 use store_path::take_apart;
-use verdict::{Fault, Verdict};
+use verdict::Fault;
 
 // 21: whether the file's own path is the one with these digits. Its name is right whatever it is.
 fn is_own(path: &[u8], own: &Digits) -> bool
     requires { StorePath path.now }
     ensures { Decides result (path.now ≡ full_store_path own.now.bytes (file_name path.now)) }
 {
-    match take_apart(path) {
-        Some(parts) => parts.digits == &own.bytes[..],
-        None => false,
-    }
+    take_apart(path).is_some_and(|parts| parts.digits == &own.bytes[..])
 }
 
-// Questions 21 to 24: the file's own path, its outputs' paths, their environment rows, and whether the text is canonical.
+// Questions 21 to 24: the file's own path, its outputs' paths, their environment rows, and whether the text is canonical. `file` is as
+// the text was read, and `sorted` has its rows sorted.
 pub fn judge_paths<'a>(
-    path: &'a [u8],
-    text: &'a [u8],
     file: &Derivation,
-    arranged: &'a Derivation,
+    sorted: SortedFile<'a>,
     own: &Digits,
     outputs: &'a [Digits; 16],
-) -> Verdict
-    requires { Judgeable path.now text.now file.now arranged.now }
-    ensures { (d : Digest) (g : Bytes → Bytes) (x : Tree derivation) → signs text.now ≡ whole x → RightDigits d path.now g (derivation_value text.now arranged.now) own.now.bytes outputs.now → PathsJudged d path.now text.now x g (derivation_value text.now arranged.now) result }
+) -> Result<(), Fault>
+    requires { Judgeable sorted.path.now sorted.text.now file.now sorted.file.now }
+    ensures { (d : Digest) (g : Bytes → Bytes) (x : Tree derivation) → signs sorted.entry.text.now ≡ whole x → RightDigits d sorted.entry.path.now g (derivation_value sorted.entry.text.now sorted.entry.file.now) own.now.bytes outputs.now → PathsJudged d sorted.entry.path.now sorted.entry.text.now x g (derivation_value sorted.entry.text.now sorted.entry.file.now) result }
 {
-    if !is_own(path, own) {
-        return Verdict::Refused(Fault::WrongPath);
+    if !is_own(sorted.path, own) {
+        return Err(Fault::WrongPath);
     }
     let right = RightOutputs {
-        path,
-        text,
-        outputs: &arranged.outputs,
+        of: sorted,
         digits: outputs,
     };
     let rows = file.outputs.as_slice();
     if let Some(spot) = first_wrong_output(&right, rows) {
-        return Verdict::Refused(Fault::WrongOutput(spot));
+        return Err(Fault::WrongOutput(spot));
     }
     if let Some(spot) = first_wrong_variable(&right, rows, file.environment.as_slice()) {
-        return Verdict::Refused(Fault::WrongVariable(spot));
+        return Err(Fault::WrongVariable(spot));
     }
-    match first_difference(text, *file) {
-        Some(place) => Verdict::Refused(Fault::NotCanonical(place)),
-        None => Verdict::Accepted,
+    match first_difference(sorted.text, *file) {
+        Some(place) => Err(Fault::NotCanonical(place)),
+        None => Ok(()),
     }
 }

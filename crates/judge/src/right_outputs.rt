@@ -1,15 +1,12 @@
 // What the right paths of a file's outputs are told by.
 ghost use Rattle.std.specs.Prelude.{◌≡◌, length};
 
-use aterm::{Output, Rows};
-use right_paths::Digits;
+use right_paths::{Digits, SortedFile};
 
-// The outputs of the file at `path`, rising, beside the digits of their right paths.
+// A file with its rows sorted, and the digits of the right paths of its outputs beside them.
 #[derive(Clone, Copy)]
 pub struct RightOutputs<'a> {
-    pub path: &'a [u8],
-    pub text: &'a [u8],
-    pub outputs: &'a Rows<Output, 16>,
+    pub of: SortedFile<'a>,
     pub digits: &'a [Digits; 16],
     ghost full: { length digits.now ≡ 16 },
 }

@@ -5,28 +5,31 @@ ghost use Rattle.judge.specs.Stated.{VariableAsked, VariablesAsked};
 use crate::outputs::is_right;
 use crate::right_outputs::RightOutputs;
 use aterm::{Output, Placed, Span, Variable};
-use canonical::compare;
-use derivation::Spot;
-use std::cmp::Ordering;
+use derivation::{Field, Spot};
+use right_paths::Said;
 
 // Where the environment has this output's name, unless it has it with the right path.
 fn wrong_variable(right: &RightOutputs, variables: &[Placed<Variable>], name: Span) -> Option<Spot>
-    ensures { VariableAsked right.now variables.now (said right.now.text.now name.start name.«end») result }
+    ensures { VariableAsked right.now variables.now (said right.now.of.text.now name.start name.«end») result }
 {
+    let out = Said {
+        text: right.of.text,
+        span: name,
+    };
     for (i, row) in variables.iter().enumerate() {
-        if let Ordering::Equal = compare(right.text, row.value.name, name) {
+        if out.same(row.value.name) {
             if is_right(right, name, row.value.value) {
                 return None;
             }
             return Some(Spot {
-                field: 7,
+                field: Field::Environment,
                 row: i + 1,
                 place: row.place,
             });
         }
     }
     Some(Spot {
-        field: 7,
+        field: Field::Environment,
         row: 0,
         place: 0,
     })

@@ -13,7 +13,7 @@ use Rattle.image.proofs.Opened.{text_short}
 use Rattle.store_path.specs.Names.{StorePath}
 use Rattle.store_path.proofs.Deciding.{same_text}
 use Rattle.links.specs.Laws.{FileOf, SetFinite, SetHas, SetOnly, OneNumber, PathsNamed, Among, SamePairs}
-use Rattle.links.specs.Sets.{set_of, Nowhere, Found}
+use Rattle.links.specs.Sets.{set_of, Found}
 
 -- no two of the first n files have the same path
 abbrev pub Apart : List ℕ → ℕ → Type 0
@@ -86,20 +86,9 @@ set_has img n opens k from to = has img n (one_number img n opens) k from to (fi
 pub set_finite : SetFinite
 set_finite img n opens = (paths img n, λ p z. (let f = only img n p z.0 z.1 in listed img n f.number f.from f.to p f.path))
 
--- where none of them has the path, no text is there
-pub none_there : (img : List ℕ) (n : ℕ) (p t : Bytes) → Nowhere img n p → set_of img n p ≡ Some t → ⊥
-none_there img n p t no-file e = let f = only img n p t e in no-file f.number f.from f.to f.path
-
 -- the file of a number that was found
-module _ (img : List ℕ) (n : ℕ) (p : Bytes) (number : ℕ) (found : Found img n p number) where
-  pub not_there : (1 ≤ number → number ≤ n → ⊥) → (t : Bytes) → set_of img n p ≡ Some t → ⊥
-  not_there out t e = elim found [ inl z ↦ none_there img n p t z.1 e | inr z ↦ out z.0 z.1 ]
-
-  pub at_path : 1 ≤ number → file_path img number ≡ p
-  at_path from = elim found [ inl z ↦ absurd (omega (arith, z.0)) | inr z ↦ z.2 ]
-
-  pub is_there : ∥ Opens img n ∥₁ → 1 ≤ number → number ≤ n → set_of img n p ≡ Some (file_text img number)
-  is_there opens from to = has img n (apart img n opens) number from to p (at_path from)
+pub found_there : (img : List ℕ) (n : ℕ) (p : Bytes) (number : ℕ) → Found img n p (Some number) → ∥ Opens img n ∥₁ → set_of img n p ≡ Some (file_text img number)
+found_there img n p number (from, to, is) opens = has img n (apart img n opens) number from to p is
 
 store_long : (p : Bytes) → StorePath p → length p ≤ 255
 store_long p s =

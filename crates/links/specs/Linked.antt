@@ -1,7 +1,6 @@
 -- What is kept of each file of an image: whether it reads, and for each input row the file that it names.
 -- Source: this project's own rule (docs/CALLS.md, "Verdict"), over the image of docs/FORMATS.md, "Image".
-use Rattle.std.specs.Prelude.{◌≡◌, ℕ, ◌-◌, ◌<◌, ◌≤◌, true, false, [], length, replicate, None, Decides, MatchBool, slice_index_or, refl}
-use Rattle.std.proofs.Common.{zero-le}
+use Rattle.std.specs.Prelude.{◌≡◌, ℕ, ◌-◌, ◌<◌, ◌≤◌, [], length, Some, None, Option, Decides, slice_index_or}
 use Rattle.aterm.specs.Files.{input, derivation, whole, in_input}
 use Rattle.aterm.specs.Grammar.{Tree, Within, signs, meaning}
 use Rattle.aterm.specs.declared.file.Input.{Input}
@@ -17,12 +16,6 @@ use Rattle.links.specs.declared.link.Link.{Link}
 use Rattle.links.specs.declared.link.Links.{Links}
 use Rattle.links.specs.declared.table.LinkTable.{LinkTable}
 
-abbrev pub no_link : Link
-no_link = record { file = 0; owned = true }
-
-abbrev pub no_links : Links
-no_links = record { reads = false; rows = replicate 64 no_link; count = 0; few = zero-le; wide = refl }
-
 abbrev pub no_input : Tree input
 no_input = ([], [])
 
@@ -34,13 +27,13 @@ pub record ReadsAs (path text : Bytes) (x : Tree derivation) : Type 0 where
 
 -- of the image of n files
 module _ (img : Bytes) (n : ℕ) where
-  -- the link of an input row: the number of the file that it names, and whether that owns the outputs named, if it reads
-  pub record LinkRight (t : Tree input) (w : Link) : Type 0 where
-    pub file : Found img n (meaning t.0) w.file
-    pub owned : Decides w.owned (Owned (set_of img n) (row_of t))
+  -- the link of an input row: the number of the file that it names, if there is one, and whether that owns the outputs named, if it reads
+  abbrev pub LinkRight : Tree input → Option Link → Type 0
+  LinkRight t None = Found img n (meaning t.0) None
+  LinkRight t (Some w) = Found img n (meaning t.0) (Some w.file) × Decides w.owned (Owned (set_of img n) (row_of t))
 
   -- w is the link of the row whose value is v
-  abbrev pub RowLinked : Bytes → Input → Link → Type 0
+  abbrev pub RowLinked : Bytes → Input → Option Link → Type 0
   RowLinked text v w = (at : ℕ) (t : Tree input) → in_input text at v t → PlainInput t → LinkRight t w
 
   -- a file that reads has a link for each input row, in text order
@@ -48,25 +41,26 @@ module _ (img : Bytes) (n : ℕ) where
     pub tree : Tree derivation
     pub reads : ReadsAs path text tree
     pub count : l.count ≡ length tree.1.0
-    pub right : (i : ℕ) → i < l.count → LinkRight (slice_index_or tree.1.0 i no_input) (slice_index_or l.rows i no_link)
+    pub right : (i : ℕ) → i < l.count → LinkRight (slice_index_or tree.1.0 i no_input) (slice_index_or l.rows i None)
 
-  -- what is kept of the file at this path with this text
-  abbrev pub FileLinked : Bytes → Bytes → Links → Type 0
-  FileLinked path text l = MatchBool l.reads (RowsLinked path text l) ((f : FileFault) × IsFileFault path text f)
+  -- what is kept of the file at this path with this text: nothing where it does not read
+  abbrev pub FileLinked : Bytes → Bytes → Option Links → Type 0
+  FileLinked path text None = (f : FileFault) × IsFileFault path text f
+  FileLinked path text (Some l) = RowsLinked path text l
 
   -- and of the file of this number
-  abbrev pub Linked : ℕ → Links → Type 0
+  abbrev pub Linked : ℕ → Option Links → Type 0
   Linked k l = FileLinked (file_path img k) (file_text img k) l
 
 -- what a table keeps of the file of this number
-abbrev pub links_at : LinkTable → ℕ → Links
-links_at t k = slice_index_or t.files (k - 1) no_links
+abbrev pub links_at : LinkTable → ℕ → Option Links
+links_at t k = slice_index_or t.files (k - 1) None
 
 -- it keeps what is right of every file of the image
 abbrev pub AllLinked : Bytes → ℕ → LinkTable → Type 0
 AllLinked img n t = (k : ℕ) → 1 ≤ k → k ≤ n → Linked img n k (links_at t k)
 
--- l is what it keeps; of a number past its end, that such a file does not read
-pub record Kept (t : LinkTable) (k : ℕ) (l : Links) : Type 0 where
+-- l is what it keeps; of a number past its end nothing
+pub record Kept (t : LinkTable) (k : ℕ) (l : Option Links) : Type 0 where
   pub within : 1 ≤ k → k ≤ 256 → l ≡ links_at t k
-  pub past : (1 ≤ k → k ≤ 256 → ⊥) → (l.reads ≡ false) × (l.count ≡ 0)
+  pub past : (1 ≤ k → k ≤ 256 → ⊥) → l ≡ None

@@ -1,6 +1,6 @@
 -- The set of files of an image, and the number of the file at a path.
 -- Source: this project's own rule (docs/FORMATS.md, "Image"): files are numbered from 1 in chain order, and no two have the same path.
-use Rattle.std.specs.Prelude.{◌≡◌, ℕ, zero, suc, ◌≤◌, cond, ◌⊎◌, List, Some, None, ◌≢◌}
+use Rattle.std.specs.Prelude.{◌≡◌, ℕ, zero, suc, ◌≤◌, cond, List, Some, None, Option, ◌≢◌}
 use Rattle.std.specs.Str.{bytes_eq}
 use Rattle.hash_modulo.specs.Sets.{Bytes, Files}
 use Rattle.image.specs.Layout.{file_path, file_text}
@@ -14,6 +14,7 @@ set_of img (suc n) p = cond (bytes_eq (file_path img (suc n)) p) (Some (file_tex
 abbrev pub Nowhere : List ℕ → ℕ → Bytes → Type 0
 Nowhere img n p = (k : ℕ) → 1 ≤ k → k ≤ n → file_path img k ≢ p
 
--- r is the number of the file at this path, of the first n, or 0 where there is none
-abbrev pub Found : List ℕ → ℕ → Bytes → ℕ → Type 0
-Found img n p r = ((r ≡ 0) × Nowhere img n p) ⊎ ((1 ≤ r) × (r ≤ n) × (file_path img r ≡ p))
+-- the number of the file at this path, of the first n, or none
+abbrev pub Found : List ℕ → ℕ → Bytes → Option ℕ → Type 0
+Found img n p None = Nowhere img n p
+Found img n p (Some number) = (1 ≤ number) × (number ≤ n) × (file_path img number ≡ p)

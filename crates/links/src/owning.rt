@@ -4,23 +4,19 @@ ghost use Rattle.std.specs.List.{AllByRecursion};
 ghost use Rattle.aterm.specs.Files.{output as output_shape};
 ghost use Rattle.aterm.specs.Grammar.{Tree, string, raw};
 ghost use Rattle.image.specs.Files.{bytes_of, files_of};
-ghost use Rattle.links.specs.Owners.{OwnsOutput, HeldNames, NamesAre, HeldOutputs, OutputsAre, OwnedBy};
+ghost use Rattle.links.specs.Owners.{OwnsOutput, NamesAre, OutputsAre, OwnedBy};
 
 use aterm::{Output, Placed, Span};
-use derivation::{cut, read_file};
+use derivation::read_file;
 use image::Image;
 
 // Whether one of the outputs has this name.
 fn has_output(text: &[u8], outputs: &[Placed<Output>], name: &[u8]) -> bool
-    requires { HeldOutputs text.now outputs.now }
     ensures { (os : List (Tree output_shape)) → OutputsAre text.now outputs.now os → Decides result (OwnsOutput os name.now) }
 {
-    for output in outputs {
-        if cut(text, output.value.name) == name {
-            return true;
-        }
-    }
-    false
+    outputs
+        .iter()
+        .any(|output| output.value.name.bytes(text) == name)
 }
 
 // Whether the outputs, of a text of their own, have each of the names.
@@ -30,20 +26,19 @@ fn has_outputs(
     text: &[u8],
     names: &[Placed<Span>],
 ) -> bool
-    requires { (HeldOutputs owner.now outputs.now) × (HeldNames text.now names.now) }
     ensures { (os : List (Tree output_shape)) (ns : List (Tree string)) → OutputsAre owner.now outputs.now os → NamesAre text.now names.now ns → Decides result (AllByRecursion (λ n. OwnsOutput os (raw n)) ns) }
 {
+    // Walked in a loop: with `all`, no proof of what the closure's answers say of every list of trees was found.
     for name in names {
-        if !has_output(owner, outputs, cut(text, name.value)) {
+        if !has_output(owner, outputs, name.value.bytes(text)) {
             return false;
         }
     }
     true
 }
 
-// Whether the file of this number owns the outputs named; yes if there is no such file or it does not read.
+// Whether the file of this number owns the outputs named; yes if it does not read, and of 0, which stands for no file.
 pub fn is_owned(image: &Image<'_>, number: usize, text: &[u8], names: &[Placed<Span>]) -> bool
-    requires { HeldNames text.now names.now }
     ensures { OwnedBy (bytes_of image.now) (files_of image.now) number text.now names.now result }
 {
     match image.file(number) {

@@ -2,10 +2,10 @@ ghost use Rattle.std.specs.Prelude.{◌≡◌, length};
 
 use crate::link::Links;
 
-// What is kept of each file of an image, at its number less one.
+// What is kept of each file of an image that reads, at its number less one.
 #[derive(Clone, Copy)]
 pub struct LinkTable {
-    files: [Links; 256],
+    files: [Option<Links>; 256],
     ghost wide: { length files ≡ 256 },
 }
 

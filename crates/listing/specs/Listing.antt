@@ -7,24 +7,15 @@ use Rattle.derivation.specs.Judgement.{Answer as Answers, IsFileFault, details}
 use Rattle.derivation.specs.declared.fault.FileFault.{FileFault}
 use Rattle.derivation.specs.declared.question.Question.{Question}
 use Rattle.derivation.specs.declared.told.Told.{Told}
+use Rattle.report.specs.Texts.{told_text, refused_text}
 use Rattle.sink.specs.Numerals.{hex}
 use Rattle.sink.specs.Write.{Step, Held, Writes}
+use Rattle.image.specs.Files.{bytes_of, files_of}
 use Rattle.image.specs.Layout.{file_path, file_text}
 use Rattle.image.specs.Opening.{Answer, Opens, refusal_number, refusal_slot}
+use Rattle.image.specs.declared.image.Image.{Image}
 use Rattle.image.specs.declared.refusal.Refusal.{Refusal}
 use Rattle.image.specs.declared.refusal.Refusal.TheVariants.{Size}
-
--- `refused NUMBER SLOT`, ended by byte 10
-abbrev pub refused_text : ℕ → ℕ → List ℕ
-refused_text number slot = codes "refused " ++ (decimal number ++ (32 ∷ (decimal slot ++ (10 ∷ []))))
-
--- a number after a space
-abbrev pub column : ℕ → List ℕ
-column n = 32 ∷ decimal n
-
--- `NUMBER LAYER FIELD ROW PLACE`, each after a space
-abbrev pub told_text : Told → List ℕ
-told_text t = column t.number ++ (column t.layer ++ (column t.field ++ (column t.row ++ column t.place)))
 
 -- `K NUMBER LAYER FIELD ROW PLACE DIGEST PATH`, ended by byte 10
 abbrev pub file_line : ℕ → Told → List ℕ → List ℕ → List ℕ
@@ -74,9 +65,17 @@ AllAnswered img ts (Ok n) = AllTold img ts n
 AllAnswered img ts (Err _) = Unit {0}
 
 -- what was read has opened as an image, or is refused
-abbrev pub InputOpened : {T : Type 0} → List ℕ → Result T Refusal → List ℕ → ℕ → Type 0
-InputOpened img (Ok _) bytes n = (bytes ≡ img) × (length img ≤ 65535) × Opens img n
-InputOpened img (Err e) bytes n = Answered img (Err e)
+abbrev pub InputOpened : List ℕ → Result Image Refusal → Type 0
+InputOpened img (Ok image) = (bytes_of image ≡ img) × (length img ≤ 65535) × Opens img (files_of image)
+InputOpened img (Err e) = Answered img (Err e)
+
+-- the line of a file, with what is told of it, written to a sink that was h, answers r and leaves k
+abbrev pub LineWritten : {T E : Type 0} → Step → Held → (List ℕ → List ℕ) → ℕ → List ℕ → List ℕ → Result T E → Held → Type 0
+LineWritten f h D number path text r k = (t : Told) × Tells path text t × Writes f h (file_line number t (D text) path) r k
+
+-- the same of the lines of the n files of an image, and the last line
+abbrev pub FilesWritten : {T E : Type 0} → Step → Held → (List ℕ → List ℕ) → List ℕ → ℕ → Result T E → Held → Type 0
+FilesWritten f h D img n r k = (ts : List Told) × AllTold img ts n × Writes f h (lines_from D img ts 1 n ++ last_line n) r k
 
 -- the listing of what was read, written to a sink that was h, answers r and leaves k
 pub record Listing {T E : Type 0} (f : Step) (h : Held) (D : List ℕ → List ℕ) (img : List ℕ) (r : Result T E) (k : Held) : Type 0 where

@@ -14,16 +14,19 @@ use std::env;
 
 const PATH: &[u8] = b"/nix/store/0123456789abcdfghijklmnpqrsvwxyz-bench.drv";
 
+// Takes a step so many times, once at least, and answers what the last one does.
+fn repeat<E: Drop, F: FnMut() -> Result<usize, E>>(times: usize, mut step: F) -> Result<usize, E>
+    requires { F.IsAlwaysCallable step }
+{
+    for _ in 1..times {
+        step()?;
+    }
+    step()
+}
+
 fn read_once(text: &[u8]) -> Result<usize, FileFault> {
     let file = read_file(PATH, text)?;
     Ok(file.environment.len())
-}
-
-fn read_again(text: &[u8], times: usize) -> Result<usize, FileFault> {
-    for _i in 1..times {
-        let _ = read_once(text)?;
-    }
-    read_once(text)
 }
 
 fn rewrite_once(text: &[u8], room: &mut [u8]) -> Result<usize, Unwritten> {
@@ -32,27 +35,14 @@ fn rewrite_once(text: &[u8], room: &mut [u8]) -> Result<usize, Unwritten> {
     Ok(out.count())
 }
 
-fn rewrite_again(text: &[u8], room: &mut [u8], times: usize) -> Result<usize, Unwritten> {
-    for _i in 1..times {
-        let _ = rewrite_once(text, room)?;
-    }
-    rewrite_once(text, room)
-}
-
 fn read(text: &[u8], times: usize) -> anyhow::Result<usize> {
-    match read_again(text, times) {
-        Ok(rows) => Ok(rows),
-        Err(_) => Err(anyhow!("the text does not read")),
-    }
+    repeat(times, || read_once(text)).map_err(|_| anyhow!("the text does not read"))
 }
 
 fn rewrite(rt: &HostRuntime, text: &[u8], times: usize) -> anyhow::Result<usize> {
     let size = text.len().saturating_mul(2).saturating_add(64);
     let mut room = vec![in rt.alloc(); 0u8; size]?;
-    match rewrite_again(text, &mut room, times) {
-        Ok(count) => Ok(count),
-        Err(_) => Err(anyhow!("the text is not written")),
-    }
+    repeat(times, || rewrite_once(text, &mut room)).map_err(|_| anyhow!("the text is not written"))
 }
 
 // The number that an argument gives, or the one that holds without it.
@@ -64,21 +54,20 @@ fn number(rt: &HostRuntime, at: usize, without: usize) -> anyhow::Result<usize> 
 }
 
 fn wants_rewrite(rt: &HostRuntime) -> anyhow::Result<bool> {
-    match env::args(rt)?.nth(2) {
-        Some(text) => Ok(text.as_str() == "rewrite"),
-        None => Ok(false),
-    }
+    let kind = env::args(rt)?.nth(2);
+    Ok(kind.is_some_and(|text| text.as_str() == "rewrite"))
 }
 
 // A text has at most 256 KiB.
 fn run(rt: &HostRuntime) -> anyhow::Result<()> {
     let size = number(rt, 1, 64)?.min(255) * 1024;
     let times = number(rt, 3, 1)?;
-    let text = make(rt.alloc(), size)?;
+    let made = make(rt.alloc(), size)?;
+    let text = made.as_bytes();
     let count = if wants_rewrite(rt)? {
-        rewrite(rt, &text, times)?
+        rewrite(rt, text, times)?
     } else {
-        read(&text, times)?
+        read(text, times)?
     };
     let length = text.len();
     println!(rt; "{length} {count}")?;

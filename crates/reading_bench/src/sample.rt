@@ -1,74 +1,65 @@
 // A derivation's text of about a given size, the same for each size.
-use std::alloc::{AllocError, Global};
+use std::alloc::Global;
+use std::fmt::Write;
 
-// Three digits.
-fn push_number(to: &mut Vec<u8>, n: usize) -> Result<(), AllocError> {
-    to.push(b'0' + (n / 100 % 10) as u8)?;
-    to.push(b'0' + (n / 10 % 10) as u8)?;
-    to.push(b'0' + (n % 10) as u8)?;
+// A store path up to its name; the number stands in its digits.
+fn push_store(to: &mut String, n: usize) -> anyhow::Result<()> {
+    write!(to, "/nix/store/{n:03}3456789abcdfghijklmnpqrsvwxyz-")?;
     Ok(())
 }
 
-// A store path up to its name; the number stands in its digits.
-fn push_store(to: &mut Vec<u8>, n: usize) -> Result<(), AllocError> {
-    to.extend_from_slice(b"/nix/store/")?;
-    push_number(to, n)?;
-    to.extend_from_slice(b"3456789abcdfghijklmnpqrsvwxyz-")
-}
-
-// The byte at place i of a string: a letter, or one of two escapes.
-fn push_place(to: &mut Vec<u8>, i: usize) -> Result<(), AllocError> {
+// What stands at place i of a string: a letter, or one of two escapes.
+fn push_place(to: &mut String, i: usize) -> anyhow::Result<()> {
     match i % 40 {
-        19 => to.extend_from_slice(b"\\n"),
-        39 => to.extend_from_slice(b"\\\""),
-        _ => {
-            to.push(b'a' + (i % 26) as u8)?;
-            Ok(())
-        }
+        19 => to.push_str("\\n")?,
+        39 => to.push_str("\\\"")?,
+        _ => to.push(char::from(b'a' + (i % 26) as u8))?,
     }
+    Ok(())
 }
 
-// A string of so many bytes after one that is escaped without need.
-fn push_string(to: &mut Vec<u8>, count: usize) -> Result<(), AllocError> {
-    to.extend_from_slice(b"\"\\-")?;
+// A string of so many places after one that is escaped without need.
+fn push_string(to: &mut String, count: usize) -> anyhow::Result<()> {
+    to.push_str("\"\\-")?;
     for i in 0..count {
         push_place(to, i)?;
     }
-    to.extend_from_slice(b"\"")
+    to.push('"')?;
+    Ok(())
 }
 
 // A comma before each row but the first.
-fn push_comma(to: &mut Vec<u8>, row: usize) -> Result<(), AllocError> {
+fn push_comma(to: &mut String, row: usize) -> anyhow::Result<()> {
     if row > 0 {
-        to.push(b',')?;
+        to.push(',')?;
     }
     Ok(())
 }
 
-// 16 input rows, not sorted.
-fn push_inputs(to: &mut Vec<u8>) -> Result<(), AllocError> {
+// 16 input rows, not sorted. The numbers of this and the lists below stand in the text itself.
+fn push_inputs(to: &mut String) -> anyhow::Result<()> {
     for i in 0..16usize {
         push_comma(to, i)?;
-        to.extend_from_slice(b"(\"")?;
+        to.push_str("(\"")?;
         push_store(to, i * 5 % 16)?;
-        to.extend_from_slice(b"input.drv\",[\"out\",\"dev\"])")?;
+        to.push_str("input.drv\",[\"out\",\"dev\"])")?;
     }
     Ok(())
 }
 
 // 16 sources, not sorted.
-fn push_sources(to: &mut Vec<u8>) -> Result<(), AllocError> {
+fn push_sources(to: &mut String) -> anyhow::Result<()> {
     for i in 0..16usize {
         push_comma(to, i)?;
-        to.push(b'"')?;
+        to.push('"')?;
         push_store(to, i * 7 % 16)?;
-        to.extend_from_slice(b"source\"")?;
+        to.push_str("source\"")?;
     }
     Ok(())
 }
 
 // 64 arguments.
-fn push_arguments(to: &mut Vec<u8>, count: usize) -> Result<(), AllocError> {
+fn push_arguments(to: &mut String, count: usize) -> anyhow::Result<()> {
     for i in 0..64usize {
         push_comma(to, i)?;
         push_string(to, count)?;
@@ -77,34 +68,32 @@ fn push_arguments(to: &mut Vec<u8>, count: usize) -> Result<(), AllocError> {
 }
 
 // 128 environment rows, not sorted.
-fn push_environment(to: &mut Vec<u8>, count: usize) -> Result<(), AllocError> {
+fn push_environment(to: &mut String, count: usize) -> anyhow::Result<()> {
     for i in 0..128usize {
         push_comma(to, i)?;
-        to.extend_from_slice(b"(\"v")?;
-        push_number(to, i * 37 % 128)?;
-        to.extend_from_slice(b"\",")?;
+        write!(to, "(\"v{:03}\",", i * 37 % 128)?;
         push_string(to, count)?;
-        to.push(b')')?;
+        to.push(')')?;
     }
     Ok(())
 }
 
 // What stands beside the bytes of the arguments and the environment's values is about 23 bytes to each of their 192 strings;
 // one place in 20 of a string is an escape of two bytes.
-pub fn make(heap: Global, size: usize) -> Result<Vec<u8>, AllocError> {
+pub fn make(heap: Global, size: usize) -> anyhow::Result<String> {
     let each = (size / 192).saturating_sub(23);
     let count = each - each / 21;
-    let mut made = Vec::new(heap);
-    made.extend_from_slice(b"Derive([(\"out\",\"")?;
+    let mut made = String::new(heap);
+    made.push_str("Derive([(\"out\",\"")?;
     push_store(&mut made, 0)?;
-    made.extend_from_slice(b"bench\",\"\",\"\")],[")?;
+    made.push_str("bench\",\"\",\"\")],[")?;
     push_inputs(&mut made)?;
-    made.extend_from_slice(b"],[")?;
+    made.push_str("],[")?;
     push_sources(&mut made)?;
-    made.extend_from_slice(b"],\"x86_64-linux\",\"/bin/sh\",[")?;
+    made.push_str("],\"x86_64-linux\",\"/bin/sh\",[")?;
     push_arguments(&mut made, count)?;
-    made.extend_from_slice(b"],[")?;
+    made.push_str("],[")?;
     push_environment(&mut made, count)?;
-    made.extend_from_slice(b"])")?;
+    made.push_str("])")?;
     Ok(made)
 }

@@ -4,69 +4,73 @@
 
 use aterm::Derivation;
 use canonical::first_difference;
-use derivation::{read_file, tell};
+use derivation::{Told, read_file};
 use file_meaning::write_canonical_file;
 use sha256::Sha256;
 use sink::DigestSink;
 use std::io::{BufRead, BufReader};
-use test_input::decode;
+use test_input::{Hex, decode};
 
-// The SHA-256 of the canonical text, which goes straight into the digest.
-fn digest_canonical(path: &[u8], text: &[u8]) -> Option<[u8; 32]> {
-    let mut digest = Sha256::new();
-    match write_canonical_file(path, text, &mut digest) {
-        Ok(()) => Some(digest.answer()),
-        Err(_) => None,
-    }
+// A file under the name of its case.
+#[derive(Clone, Copy)]
+struct Case<'a> {
+    name: &'a str,
+    path: &'a [u8],
+    text: &'a [u8],
 }
 
-fn show_canonical(
-    rt: &HostRuntime,
-    name: &str,
-    path: &[u8],
-    text: &[u8],
-    file: Derivation,
-) -> anyhow::Result<()> {
-    print!(rt; "{name} reads ")?;
-    if let Some(digest) = digest_canonical(path, text) {
-        for b in digest {
-            print!(rt; "{b:02x}")?;
+impl<'a> Case<'a> {
+    // The SHA-256 of the canonical text, which goes straight into the digest.
+    fn digest_canonical(&self) -> Option<[u8; 32]> {
+        let mut digest = Sha256::new();
+        write_canonical_file(self.path, self.text, &mut digest).ok()?;
+        Some(digest.answer())
+    }
+
+    fn show_canonical(&self, rt: &HostRuntime, file: Derivation) -> anyhow::Result<()> {
+        let name = self.name;
+        print!(rt; "{name} reads ")?;
+        if let Some(digest) = self.digest_canonical() {
+            print!(rt; "{}", Hex(&digest))?;
         }
+        match first_difference(self.text, file) {
+            None => println!(rt; " canonical")?,
+            Some(place) => println!(rt; " differs {place}")?,
+        }
+        Ok(())
     }
-    match first_difference(text, file) {
-        None => println!(rt; " canonical")?,
-        Some(place) => println!(rt; " differs {place}")?,
+
+    fn show(&self, rt: &HostRuntime) -> anyhow::Result<()> {
+        match read_file(self.path, self.text) {
+            Ok(file) => self.show_canonical(rt, file)?,
+            Err(fault) => {
+                let name = self.name;
+                println!(rt; "{name} {}", Told::from(fault))?;
+            }
+        }
+        Ok(())
     }
-    Ok(())
 }
 
-fn show(rt: &HostRuntime, name: &str, path: &str, text: &str) -> anyhow::Result<()> {
+fn show(rt: &HostRuntime, line: &str) -> anyhow::Result<()> {
+    let Some((name, file)) = line.split_once(' ') else {
+        return Ok(());
+    };
+    let (path, text) = file.split_once(' ').unwrap_or((file, ""));
     let path = decode(rt.alloc(), path.as_bytes())?;
     let text = decode(rt.alloc(), text.as_bytes())?;
-    match read_file(&path, &text) {
-        Ok(file) => show_canonical(rt, name, &path, &text, file)?,
-        Err(fault) => {
-            let told = tell(fault);
-            let number = told.number;
-            let layer = told.layer;
-            let field = told.field;
-            let row = told.row;
-            let place = told.place;
-            println!(rt; "{name} {number} {layer} {field} {row} {place}")?;
-        }
-    }
-    Ok(())
+    let case = Case {
+        name,
+        path: &path,
+        text: &text,
+    };
+    case.show(rt)
 }
 
 fn run(rt: &HostRuntime) -> anyhow::Result<()> {
     for line in BufReader::new(rt.alloc(), rt.stdin())?.lines(rt.alloc()) {
         let line = line?;
-        if let Some((name, file)) = line.as_str().split_once(' ') {
-            match file.split_once(' ') {
-                Some((path, text)) => show(rt, name, path, text)?,
-                None => show(rt, name, file, "")?,
-            }
-        }
+        show(rt, line.as_str())?;
     }
     Ok(())
 }

@@ -1,12 +1,12 @@
 -- What a recorder keeps while the sink below takes the bytes.
-use Rattle.std.proofs.Common.{◌≡◌, ℕ, ◌+◌, ◌^◌, ◌<◌, ◌≤◌, true, List, [], ◌∷◌, ◌++◌, length, get_or, take, drop, set, is_err, Ok, Err, Result, sym, refl, ap, ◌∙◌, arith, length-set}
+use Rattle.std.proofs.Common.{◌≡◌, ℕ, ◌+◌, ◌<◌, ◌≤◌, List, [], ◌∷◌, ◌++◌, length, get_or, take, drop, set, sym, refl, ap, ◌∙◌, length-set}
 use Rattle.std.proofs.lemmas.List.{take_at, drop_at, at_drop_more, set_past, length-replicate}
-use Rattle.sink.specs.Write.{Step, Meaning, Held, steps, filled, Taken, Writes}
+use Rattle.sink.specs.Write.{Step, Meaning, Held, steps, filled, Taken}
 use Rattle.sink.specs.Digest.{Begins}
 use Rattle.recorder.specs.Record.{recording, recorded, recorded_start, recorded_answer, zeros, counted, counts, laid, SameDigest}
 use Rattle.recorder.specs.declared.layer.Recorder.{Recorder}
 use Rattle.recorder.specs.declared.table.Table.{Table}
-use Rattle.sink.proofs.Writing.{parts, meant, kept}
+use Rattle.sink.proofs.Writing.{parts, meant}
 
 pub length_laid : (t : List ℕ) (c : ℕ) (bs : List ℕ) → length (laid t c bs) ≡ length t
 length_laid t c [] = refl
@@ -76,11 +76,6 @@ pub same_digest : (f : Step) (start : List ℕ) (answer : List ℕ → List ℕ)
 same_digest f start answer bs =
     ap (recorded_answer answer) (steps_recording 4096 f 0 (zeros 4096) start bs (length_zeros 4096))
     ∙ sym (answer_below answer (counts 0 bs) (laid (zeros 4096) 0 bs) (steps f start bs) (length_laid (zeros 4096) 0 bs ∙ length_zeros 4096))
-
--- a sink that refused, and is what it was
-pub refused : {T E : Type 0} (f : Step) (h k : Held) (bs : List ℕ) (r : Result T E) → is_err r ≡ true → h.meaning.total < 2 ^ 64 → h.meaning.remaining < length bs → k ≡ h → Writes f h bs r k
-refused f h k bs (Ok x) was small past same = let z : ◌≡◌ {A = ℕ} 0 1 = cc in absurd (omega arith)
-refused f h k bs (Err x) was small past same = record { told = kept f h k bs small past same }
 
 pub same_below : {S : Type 0} (t : Table) (a b : S) → a ≡ b → ◌≡◌ {A = Recorder S} (record { table = t; below = a }) (record { table = t; below = b })
 same_below t a b e i = record { table = t; below = e i }

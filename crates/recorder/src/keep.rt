@@ -12,6 +12,7 @@ fn one_more(count: u32) -> u32
 }
 
 // Lays the bytes into the table from `count` on, as far as it reaches, and answers the new count.
+// The count stops at the largest number of 32 bits, so no iterator's index serves in its place.
 fn lay(table: &mut [u8; 4096], count: u32, bytes: &[u8]) -> u32
     ensures count { result ≡ counts count bytes.now }
     ensures table { table.new ≡ laid table.old count bytes.now }
@@ -59,7 +60,7 @@ impl Table {
             return Err(Full);
         }
         let bytes = &self.bytes;
-        out[0..n].copy_from_slice(&bytes[0..n]);
+        out[..n].copy_from_slice(&bytes[..n]);
         Ok(n)
     }
 }

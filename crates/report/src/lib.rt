@@ -1,10 +1,11 @@
 // The texts of the final report: a line a file, the line of a refusal, and the last line.
 #![tactic(auto)]
 
-mod text;
-mod values;
-mod writers;
+mod columns;
+mod lines;
+mod percent;
+mod whole;
 
-pub use text::{Text, write_whole};
-pub use values::{FileLine, RefusedLine, Summary};
-pub use writers::{write_file_line, write_refused, write_summary};
+pub use columns::write_told;
+pub use lines::{FileLine, RefusedLine, Summary};
+pub use whole::write_whole;

@@ -1,9 +1,8 @@
 -- What a counting layer counts while the sink below takes the bytes.
-use Rattle.std.proofs.Common.{◌≡◌, ℕ, ◌+◌, ◌%◌, ◌^◌, ◌<◌, true, List, [], ◌∷◌, length, is_err, Ok, Err, Result, sym, refl, ap, ◌∙◌, subst, arith}
-use Rattle.sink.specs.Write.{Step, Meaning, Held, steps, written, filled, Taken, Stopped, Writes}
-use Rattle.sink.proofs.Writing.{parts, meant, kept}
+use Rattle.std.proofs.Common.{◌≡◌, ℕ, ◌+◌, ◌%◌, ◌^◌, ◌<◌, List, [], ◌∷◌, length, sym, refl, ap, ◌∙◌, arith}
+use Rattle.sink.specs.Write.{Step, Held, steps, written, filled, Taken}
+use Rattle.sink.proofs.Writing.{parts, meant}
 use Rattle.right_paths.specs.Counting.{counting, counted}
-use Rattle.right_paths.specs.Pouring.{Counts}
 
 pub steps_counting : (f : Step) (c : ℕ) (s bs : List ℕ) → steps (counting f) ((c % (2 ^ 64)) ∷ s) bs ≡ ((c + length bs) % (2 ^ 64)) ∷ steps f s bs
 steps_counting f c s [] = let e : c % (2 ^ 64) ≡ (c + 0) % (2 ^ 64) = omega arith in ap (λ (n : ℕ). n ∷ s) e
@@ -33,11 +32,6 @@ counted_taken f c n a bs h k count (left, e) =
           refl,
     )
 
--- a sink that refused, and is what it was
-pub refused : {T E : Type 0} (f : Step) (h k : Held) (bs : List ℕ) (r : Result T E) → is_err r ≡ true → h.meaning.total < 2 ^ 64 → h.meaning.remaining < length bs → k ≡ h → Writes f h bs r k
-refused f h k bs (Ok x) was small past same = let z : ◌≡◌ {A = ℕ} 0 1 = cc in absurd (omega arith)
-refused f h k bs (Err x) was small past same = record { told = kept f h k bs small past same }
-
 -- a string written through a new layer: its count, and what the lent sink holds when the loan ends
 pub counted_from_new : {S : Type 0} (held : S → Held) (f : Step) (a b m n : ℕ) (x y z out : S) (bs : List ℕ) → y ≡ x → b ≡ a → m ≡ 0
     → (d : ℕ) → Taken (counting f) (counted (held y) b m) bs (counted (held z) d n) → n < 2 ^ 64 → (a ≡ d → out ≡ z)
@@ -51,11 +45,3 @@ counted_from_new {S} held f a b m n x y z out bs p q s d (left, e) small tied =
     let same : out ≡ z = tied (sym q ∙ sym (ap (λ (h : Held). h.loan) e)) in
     let all : (held z).meaning ≡ written f (held y).meaning bs = meant _ _ _ _ _ _ below (ap (λ (h : Held). h.meaning.remaining) e) (ap (λ (h : Held). h.meaning.total) e) in
     (omega (arith, here, s), ap (λ (v : S). (held v).meaning) same ∙ all ∙ ap (λ (v : S). written f (held v).meaning bs) p)
-
-pub counted_too_long : {S : Type 0} (held : S → Held) (f : Step) (b m : ℕ) (x y : S) (bs : List ℕ) {k : Held} → y ≡ x
-    → Stopped (counting f) (counted (held y) b m) bs k → (held x).meaning.remaining < length bs
-counted_too_long {S} held f b m x y bs p s = subst (λ (v : S). (held v).meaning.remaining < length bs) p s.over
-
-pub counts_err : {E : Type 0} (f : Step) (m k : Meaning) (bs : List ℕ) (r : Result ℕ E) → is_err r ≡ true → m.remaining < length bs → Counts f m bs r k
-counts_err f m k bs (Ok x) was past = let z : ◌≡◌ {A = ℕ} 0 1 = cc in absurd (omega arith)
-counts_err f m k bs (Err x) was past = past

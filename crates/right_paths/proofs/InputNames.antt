@@ -4,7 +4,7 @@ use Rattle.std.proofs.lemmas.List.{take_more_set, map_push, map_more, get_or-map
 use Rattle.aterm.specs.declared.file.Input.{Input}
 use Rattle.aterm.specs.declared.rows.Placed.{Placed}
 use Rattle.canonical.specs.Files.{values, input_value}
-use Rattle.hash_rows.specs.Rows.{key, no_row}
+use Rattle.hash_rows.specs.Rows.{key}
 use Rattle.hash_rows.specs.declared.hash.HashRow.{HashRow}
 use Rattle.hash_modulo.specs.Sets.{Row}
 use Rattle.sink.specs.Numerals.{hex}
@@ -28,13 +28,13 @@ module _ (t : List ℕ) (rows : List (Placed Input)) (n : ℕ) (within : n ≤ l
       let b : get_or (take n rows) x.row p ≡ get_or rows x.row p = get_or-take n rows x.row p l in
       ap (λ (r : Row). (hex (key x), r.1)) (sym (a ∙ ap (λ (v : Placed Input). input_value t v.value) b))
 
-  pub named_more : (xs : List HashRow) (items : List (Placed HashInput)) (i : ℕ) (x : HashRow) (p : Placed Input) → i < length items → i < length xs → x ≡ get_or xs i no_row → x.row < n
+  pub named_more : (xs : List HashRow) (items : List (Placed HashInput)) (i : ℕ) (x d : HashRow) (p : Placed Input) → i < length items → i < length xs → x ≡ get_or xs i d → x.row < n
       → values (hash_input_value t) (take i items) ≡ map (named inputs) (take i xs)
       → values (hash_input_value t) (take (i + 1) (set items i (row_with x (get_or rows x.row p)))) ≡ map (named inputs) (take (i + 1) xs)
-  named_more xs items i x p room here at l so_far =
+  named_more xs items i x d p room here at l so_far =
       let y : Placed HashInput = row_with x (get_or rows x.row p) in
       ap (values (hash_input_value t)) (take_more_set items i y room)
       ∙ map_push (λ (v : Placed HashInput). hash_input_value t v.value) (take i items) y
       ∙ ap (λ (zs : List Row). zs ++ hash_input_value t y.value ∷ []) so_far
       ∙ ap (λ (r : Row). map (named inputs) (take i xs) ++ r ∷ []) (row_named x p l ∙ ap (named inputs) at)
-      ∙ sym (map_more (named inputs) xs i no_row here)
+      ∙ sym (map_more (named inputs) xs i d here)

@@ -1,8 +1,7 @@
 -- A merge of rising paths: one step of it, and that it is their rising union.
-use Rattle.std.proofs.Common.{◌≡◌, ℕ, ◌+◌, ◌<◌, ◌≤◌, Bool, true, false, ◌⊎◌, List, [], ◌∷◌, map, length, get_or, drop, Some, None, sym, refl, ap, ◌∙◌, subst, inl, inr, ⊎_elim, arith}
+use Rattle.std.proofs.Common.{◌≡◌, ℕ, Bool, true, false, ◌⊎◌, List, [], ◌∷◌, map, sym, refl, ap, ◌∙◌, subst, inl, inr, ⊎_elim}
 use Rattle.std.specs.List.{AllByRecursion}
 use Rattle.std.proofs.ByRecursion.{All-map, All-weaker}
-use Rattle.std.proofs.lemmas.List.{drop_more, drop_all}
 use Rattle.std.proofs.lemmas.Bool.{cases_Bool}
 use Rattle.aterm.specs.declared.file.Input.{Input}
 use Rattle.aterm.specs.declared.part.Span.{Span}
@@ -16,7 +15,7 @@ use Rattle.hash_rows.specs.Order.{before}
 use Rattle.hash_rows.proofs.Orders.{test_before, before_test}
 use Rattle.hash_modulo.specs.Paths.{References}
 use Rattle.hash_modulo.specs.Sets.{Bytes, Row}
-use Rattle.right_paths.specs.References.{among, merged, references_of, references_in, Next}
+use Rattle.right_paths.specs.References.{among, merged, references_of, references_in}
 
 -- ---- one step
 
@@ -41,34 +40,9 @@ module _ (x : Bytes) (rest : List Bytes → List Bytes) (y : Bytes) (ys : List B
       ap (λ (a : Bool). chosen a (before y x)) (not_before x y (λ v. under_not_self x (under_trans x y x v u)))
       ∙ ap (λ (b : Bool). chosen false b) (before_test y x u)
 
-here : {X : Type 0} (xs : List X) (i : ℕ) (x : X) → i < length xs → x ≡ get_or xs i x → drop i xs ≡ x ∷ drop (i + 1) xs
-here {X} xs i x h e = drop_more xs i x h ∙ ap (λ (y : X). y ∷ drop (i + 1) xs) (sym e)
-
--- from the input i and the source j on
-module _ (t : List ℕ) (inputs : List (Placed Input)) (sources : List (Placed Span)) (i j : ℕ) where
-  abbrev left : List (Placed Input) → List (Placed Span) → List Bytes
-  left = references_in t
-
-  pub next_none : length inputs ≤ i → length sources ≤ j → Next t inputs sources i j None
-  next_none h k = ap (λ v. left v (drop j sources)) (drop_all i inputs h) ∙ ap (left []) (drop_all j sources k)
-
-  pub next_input : (x : Placed Input) → i < length inputs → x ≡ get_or inputs i x → length sources ≤ j → Next t inputs sources i j (Some (x.value.path, i + 1, j))
-  next_input x h p k = (
-    ap (λ v. left v (drop j sources)) (here inputs i x h p)
-        ∙ ap (left (x ∷ drop (i + 1) inputs)) (drop_all j sources k)
-        ∙ ap (λ w. said_in t x.value.path ∷ left (drop (i + 1) inputs) w) (sym (drop_all j sources k)),
-    omega arith,
-  )
-
-  pub next_source : (y : Placed Span) → length inputs ≤ i → j < length sources → y ≡ get_or sources j y → Next t inputs sources i j (Some (y.value, i, j + 1))
-  next_source y h k q = (
-    ap (left (drop i inputs)) (here sources j y k q)
-        ∙ ap (λ v. left v (y ∷ drop (j + 1) sources)) (drop_all i inputs h)
-        ∙ ap (λ v. said_in t y.value ∷ left v (drop (j + 1) sources)) (sym (drop_all i inputs h)),
-    omega arith,
-  )
-
-  module _ (x : Placed Input) (y : Placed Span) (h : i < length inputs) (p : x ≡ get_or inputs i x) (k : j < length sources) (q : y ≡ get_or sources j y) where
+-- the first reference of some inputs and some sources, and those after it
+module _ (t : List ℕ) {inputs xs : List (Placed Input)} {sources ys : List (Placed Span)} where
+  module _ (x : Placed Input) (y : Placed Span) (p : inputs ≡ x ∷ xs) (q : sources ≡ y ∷ ys) where
     abbrev of_x : Bytes
     of_x = said_in t x.value.path
 
@@ -76,28 +50,22 @@ module _ (t : List ℕ) (inputs : List (Placed Input)) (sources : List (Placed S
     of_y = said_in t y.value
 
     abbrev after_x : List Bytes → List Bytes
-    after_x = merged (map (λ (r : Row). r.0) (values (input_value t) (drop (i + 1) inputs)))
+    after_x = merged (map (λ (r : Row). r.0) (values (input_value t) xs))
 
     abbrev after_y : List Bytes
-    after_y = values (said_in t) (drop (j + 1) sources)
+    after_y = values (said_in t) ys
 
-    both : left (drop i inputs) (drop j sources) ≡ among of_x after_x (of_y ∷ after_y)
-    both = ap (λ v. left v (drop j sources)) (here inputs i x h p) ∙ ap (left (x ∷ drop (i + 1) inputs)) (here sources j y k q)
+    both : references_in t inputs sources ≡ among of_x after_x (of_y ∷ after_y)
+    both = ap (λ v. references_in t v sources) p ∙ ap (references_in t (x ∷ xs)) q
 
-    pub next_less : Under of_x of_y → Next t inputs sources i j (Some (x.value.path, i + 1, j))
-    next_less u = (
-      both ∙ among_less of_x after_x of_y after_y u ∙ ap (λ w. of_x ∷ left (drop (i + 1) inputs) w) (sym (here sources j y k q)),
-      omega arith,
-    )
+    pub input_first : Under of_x of_y → references_in t inputs sources ≡ of_x ∷ references_in t xs sources
+    input_first u = both ∙ among_less of_x after_x of_y after_y u ∙ ap (λ w. of_x ∷ references_in t xs w) (sym q)
 
-    pub next_same : of_x ≡ of_y → Next t inputs sources i j (Some (x.value.path, i + 1, j + 1))
-    next_same e = (both ∙ among_same of_x after_x of_y after_y e, omega arith)
+    pub both_first : of_x ≡ of_y → references_in t inputs sources ≡ of_x ∷ references_in t xs ys
+    both_first e = both ∙ among_same of_x after_x of_y after_y e
 
-    pub next_more : Under of_y of_x → Next t inputs sources i j (Some (y.value, i, j + 1))
-    next_more u = (
-      both ∙ among_more of_x after_x of_y after_y u ∙ ap (λ v. of_y ∷ left v (drop (j + 1) sources)) (sym (here inputs i x h p)),
-      omega arith,
-    )
+    pub source_first : Under of_y of_x → references_in t inputs sources ≡ of_y ∷ references_in t inputs ys
+    source_first u = both ∙ among_more of_x after_x of_y after_y u ∙ ap (λ v. of_y ∷ references_in t v ys) (sym p)
 
 -- ---- the union
 

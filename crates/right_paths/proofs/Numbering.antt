@@ -2,7 +2,7 @@
 use Rattle.std.proofs.Common.{◌≡◌, ℕ, zero, suc, ◌+◌, ◌<◌, List, [], ◌∷◌, ◌++◌, map, length, get_or, sym, refl, ap, ◌∙◌, subst, inl, inr, arith}
 use Rattle.hash_rows.specs.Keyed as keyed
 use Rattle.hash_rows.specs.Keyed.{In}
-use Rattle.hash_rows.specs.Rows.{key, row_of, no_row, Rising, Gathered}
+use Rattle.hash_rows.specs.Rows.{key, row_of, Rising, Gathered}
 use Rattle.hash_rows.specs.declared.hash.Hash.{Hash}
 use Rattle.hash_rows.specs.declared.hash.HashRow.{HashRow}
 use Rattle.sink.specs.Numerals.{hex}
@@ -22,14 +22,14 @@ number_below n [] x m = absurd m
 number_below n (h ∷ hs) x (inl e) = let f = ap (λ (z : HashRow). z.row) e in omega arith
 number_below n (h ∷ hs) x (inr m) = omega (arith, number_below (suc n) hs x m)
 
-row_at : (xs : List HashRow) (i : ℕ) (x : HashRow) → i < length xs → x ≡ get_or xs i no_row → In x xs
-row_at [] i x l e = absurd (omega arith)
-row_at (y ∷ xs) zero x l e = inl e
-row_at (y ∷ xs) (suc i) x l e = inr (row_at xs i x (omega arith) e)
+row_at : (xs : List HashRow) (i : ℕ) (x d : HashRow) → i < length xs → x ≡ get_or xs i d → In x xs
+row_at [] i x d l e = absurd (omega arith)
+row_at (y ∷ xs) zero x d l e = inl e
+row_at (y ∷ xs) (suc i) x d l e = inr (row_at xs i x d (omega arith) e)
 
 -- the row at a place is numbered as all rows are
-pub number_at : (xs : List HashRow) (n : ℕ) → ((x : HashRow) → In x xs → x.row < n) → (i : ℕ) (x : HashRow) → i < length xs → x ≡ get_or xs i no_row → x.row < n
-number_at xs n all i x l e = all x (row_at xs i x l e)
+pub number_at : (xs ys : List HashRow) → xs ≡ ys → (n : ℕ) → ((x : HashRow) → In x ys → x.row < n) → (i : ℕ) (x d : HashRow) → i < length xs → x ≡ get_or xs i d → x.row < n
+number_at xs ys same n all i x d l e = all x (subst (In x) same (row_at xs i x d l e))
 
 last_in : (x : HashRow) (b a : List HashRow) → In x (b ++ x ∷ a)
 last_in x [] a = inl refl

@@ -12,8 +12,9 @@ use Rattle.hash_modulo.specs.Sets.{Bytes, Row}
 use Rattle.hash_modulo.specs.Strings.{own_strings, fixed_strings, output_string, FileStrings, no_output}
 use Rattle.right_paths.specs.Inputs.{RowsRight}
 use Rattle.right_paths.specs.Worked.{full_store_path, no_digits, PoursAll, OwnWorked, FixedRest, TextRest, FileWorked}
+use Rattle.right_paths.specs.declared.hashes.Counted.{Counted}
+use Rattle.right_paths.specs.declared.hashes.Digits.{Digits}
 use Rattle.right_paths.specs.declared.hashes.FileHashes.{FileHashes}
-use Rattle.right_paths.specs.declared.hashes.Located.{Located}
 use Rattle.right_paths.proofs.Pourings.{pours_then, holds_last}
 
 -- the file's own path stands in the answer
@@ -21,12 +22,12 @@ own_kept : {d : Digest} {path : Bytes} {m : meanings.Meaning} {a b : List ℕ} �
 own_kept {d} {path} {m} e x = subst (λ (z : List ℕ). OwnPath d path m (full_store_path z (file_name path))) (sym e) x
 
 -- the same, of an output by another term
-pub other_output : {f : Step} {start : List ℕ} {capacity : ℕ} {answer : List ℕ → List ℕ} {path : Bytes} {o p : Value an_output} {own : Located} {before after : Meaning} {r : FileHashes}
+pub other_output : {f : Step} {start : List ℕ} {capacity : ℕ} {answer : List ℕ → List ℕ} {path : Bytes} {o p : Value an_output} {own : Counted Digits} {before after : Meaning} {r : FileHashes}
     → o ≡ p → FixedRest f start capacity answer path o own before r after → FixedRest f start capacity answer path p own before r after
 other_output {f} {start} {capacity} {answer} {path} {o} {p} {own} {before} {after} {r} e x = subst (λ (z : Value an_output). FixedRest f start capacity answer path z own before r after) e x
 
-module _ {f : Step} {start : List ℕ} {capacity : ℕ} {answer : List ℕ → List ℕ} {path : Bytes} {m : meanings.Meaning} {own : Located} {before middle after : Meaning} {r : FileHashes}
-    (first : OwnWorked f start capacity answer path m before own.digits.bytes own.count middle) (g : Bytes → Bytes) where
+module _ {f : Step} {start : List ℕ} {capacity : ℕ} {answer : List ℕ → List ℕ} {path : Bytes} {m : meanings.Meaning} {own : Counted Digits} {before middle after : Meaning} {r : FileHashes}
+    (first : OwnWorked f start capacity answer path m before own.value.bytes own.count middle) (g : Bytes → Bytes) where
   pub fixed_file : (x : Fixed m) → FixedRest f start capacity answer path x.only own middle r after → FileWorked f start capacity answer path g m before r after
   fixed_file x rest =
       let ss = own_strings (digest f start answer) path m first.references ++ (fixed_string x.only ∷ fixed_strings (digest f start answer) path x.only) in

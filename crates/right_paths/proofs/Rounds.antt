@@ -5,6 +5,8 @@ use Rattle.std.proofs.ByRecursion.{All-get_or}
 use Rattle.std.proofs.lemmas.List.{map_more, get_or-map, length-map, take_all, get_or-set_same, get_or-set_other}
 use Rattle.canonical.specs.Kinds.{Value}
 use Rattle.canonical.specs.Meanings.{an_output}
+use Rattle.canonical.specs.Meanings as meanings
+use Rattle.canonical.proofs.Members.{all_from_member}
 use Rattle.derivation.specs.Questions.{output_name}
 use Rattle.sink.specs.Digest.{digest}
 use Rattle.sink.specs.Numerals.{hex}
@@ -12,7 +14,8 @@ use Rattle.sink.specs.Write.{Step, Meaning}
 use Rattle.store_path.specs.Base32.{base32, fold}
 use Rattle.hash_modulo.specs.Paths.{path_string}
 use Rattle.hash_modulo.specs.Sets.{Bytes}
-use Rattle.hash_modulo.specs.Strings.{no_output}
+use Rattle.hash_modulo.specs.Strings.{no_output, Limits}
+use Rattle.hash_modulo.proofs.Lengths.{output_short, hex_length}
 use Rattle.right_paths.specs.Worked.{no_digits, PoursAll, LocatedBy, OutputsWorked}
 use Rattle.right_paths.specs.declared.hashes.Digits.{Digits}
 use Rattle.right_paths.proofs.Pourings.{pours_then}
@@ -21,11 +24,13 @@ use Rattle.right_paths.proofs.Pourings.{pours_then}
 abbrev pub by_hash : Bytes → Bytes → Value an_output → Bytes
 by_hash path h o = path_string (codes "output:" ++ o.0) (hex h) (output_name path o.0)
 
-pub short_at : {X : Type 0} (F : X → Value an_output) (xs : List X) (i : ℕ) (d : X) (path h : Bytes) → i < length xs → AllByRecursion (λ (o : Value an_output). length (by_hash path h o) < 1048576) (map F xs)
+-- the string of an output of a file within the limits is short
+pub short_at : {X : Type 0} (F : X → Value an_output) (xs : List X) (i : ℕ) (d : X) {path : Bytes} {m : meanings.Meaning} (h : Bytes) → m.0 ≡ map F xs → Limits path m → length h ≡ 32 → i < length xs
     → length (by_hash path h (F (get_or xs i d))) < 1048576
-short_at F xs i d path h l a =
+short_at F xs i d {path} {m} h e limits wide l =
     let P : Value an_output → Type 0 = λ o. length (by_hash path h o) < 1048576 in
-    subst P (get_or-map F xs i d no_output l) (All-get_or P (map F xs) i no_output (omega (arith, length-map xs F)) a)
+    let all : AllByRecursion P m.0 = all_from_member P m.0 (λ o n. output_short limits o n (hex h) (omega (arith, hex_length h, wide))) in
+    subst P (get_or-map F xs i d no_output l) (All-get_or P (map F xs) i no_output (omega (arith, length-map xs F, l)) (subst (AllByRecursion P) e all))
 
 module _ (f : Step) (start : List ℕ) (capacity : ℕ) (answer : List ℕ → List ℕ) (path h : Bytes) (os : List (Value an_output)) (before : Meaning) where
   -- the paths of the first i outputs are worked out

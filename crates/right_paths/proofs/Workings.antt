@@ -2,7 +2,7 @@
 use Rattle.std.proofs.Common.{◌≡◌, ℕ, ◌+◌, ◌<◌, true, false, List, [], ◌∷◌, length, codes, sym, ap, ◌∙◌, subst, arith}
 use Rattle.std.specs.Str.{bytes_eq}
 use Rattle.std.proofs.lemmas.Slice.Eq.{bytes_eq-Decides}
-use Rattle.std.proofs.lemmas.Bool.{cond-true, cond-false}
+use Rattle.std.proofs.lemmas.Bool.{cond-true, cond-false, false_from_ne_true}
 use Rattle.canonical.specs.Kinds.{Value}
 use Rattle.canonical.specs.Meanings.{an_output, canonical}
 use Rattle.canonical.specs.Meanings as meanings
@@ -16,9 +16,9 @@ use Rattle.hash_modulo.specs.Paths.{path_string, file_name, References, own_type
 use Rattle.hash_modulo.specs.Sets.{Bytes, Row}
 use Rattle.right_paths.specs.Pouring.{Pours}
 use Rattle.right_paths.specs.Worked.{full_store_path, PoursAll, LocatedBy, OwnWorked, FixedWorked, OutputsWorked, TextRest}
+use Rattle.right_paths.specs.declared.hashes.Counted.{Counted}
+use Rattle.right_paths.specs.declared.hashes.Digits.{Digits}
 use Rattle.right_paths.specs.declared.hashes.FileHashes.{FileHashes}
-use Rattle.right_paths.specs.declared.hashes.Located.{Located}
-use Rattle.right_paths.proofs.Naming.{not_true}
 use Rattle.right_paths.proofs.Pourings.{pours_one, pours_then}
 
 -- the strings of the path of a fixed file's output: of a source, and by the hash of what is given
@@ -65,7 +65,7 @@ module _ {f : Step} {start : List ℕ} {capacity : ℕ} {answer : List ℕ → L
         → FixedWorked f start capacity answer path o before digits (a + b) after
     given_worked {middle} {h} {a} {b} ne p l s₁ s₂ =
         let d = digest f start answer in
-        let t : bytes_eq o.1.1.0 (codes "r:sha256") ≡ false = not_true _ (λ z. ne ((bytes_eq-Decides o.1.1.0 (codes "r:sha256")).0 z)) in
+        let t : bytes_eq o.1.1.0 (codes "r:sha256") ≡ false = false_from_ne_true _ (λ z. ne ((bytes_eq-Decides o.1.1.0 (codes "r:sha256")).0 z)) in
         let e : given path o h ≡ given path o (d (inner_string o)) = ap (given path o) p.hash in
         let x : a ≡ length (inner_string o) = p.count in
         let y : b ≡ length (given path o h) + 0 = l.pours.count in
@@ -78,10 +78,10 @@ module _ {f : Step} {start : List ℕ} {capacity : ℕ} {answer : List ℕ → L
         }
 
   -- after the two texts of a file, and the paths of its outputs
-  pub text_rest : {path : Bytes} {m : meanings.Meaning} {rows : List Row} {own : Located} {before whole middle after : Meaning} {r : FileHashes} {h k : Bytes} {a b n : ℕ}
+  pub text_rest : {path : Bytes} {m : meanings.Meaning} {rows : List Row} {own : Counted Digits} {before whole middle after : Meaning} {r : FileHashes} {h k : Bytes} {a b n : ℕ}
       → Pours f start capacity answer before (canonical (with_inputs m rows)) h a whole → Pours f start capacity answer whole (canonical (with_inputs (masked m) rows)) k b middle
       → OutputsWorked f start capacity answer path (canonical (with_inputs (masked m) rows)) m.0 middle r.outputs n after
-      → r.own.bytes ≡ own.digits.bytes → r.hash.bytes ≡ h → r.masked.bytes ≡ k → r.count ≡ own.count + a + b + n
+      → r.own.bytes ≡ own.value.bytes → r.hash.bytes ≡ h → r.masked.bytes ≡ k → r.count ≡ own.count + a + b + n
       → TextRest f start capacity answer path m rows own before r after
   text_rest {path} {m} {rows} {own} {before} {whole} {middle} {after} {r} {h} {k} {a} {b} {n} p q o kept e₁ e₂ sum =
       record {

@@ -3,4 +3,5 @@ pub mod Inputs
 pub mod Numbered
 pub mod Pouring
 pub mod References
+pub mod Views
 pub mod Worked

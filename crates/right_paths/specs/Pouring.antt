@@ -4,6 +4,10 @@ use Rattle.std.specs.Prelude.{◌≡◌, ℕ, ◌%◌, ◌^◌, ◌<◌, List, [
 use Rattle.sink.specs.Digest.{begun, digest}
 use Rattle.sink.specs.Write.{Step, Meaning, written}
 
+-- every digest sink takes it: a sink's capacity is a mebibyte at least
+abbrev pub Short : List ℕ → Type 0
+Short s = length s < 1048576
+
 -- a string is written from the meaning m on and its length answered, modulo 2 ^ 64; or it does not fit
 abbrev pub Counts : {E : Type 0} → Step → Meaning → List ℕ → Result ℕ E → Meaning → Type 0
 Counts f m bs (Ok n) k = (n ≡ length bs % (2 ^ 64)) × (k ≡ written f m bs)

@@ -1,6 +1,6 @@
 -- The references of a file: the paths of its inputs and its sources, rising, each once.
 -- Source: this project's own rule (docs/FORMATS.md, "Right paths").
-use Rattle.std.specs.Prelude.{◌≡◌, ℕ, ◌+◌, ◌-◌, ◌<◌, true, false, List, [], ◌∷◌, map, length, drop, Some, None, Option}
+use Rattle.std.specs.Prelude.{ℕ, true, false, List, [], ◌∷◌, map}
 use Rattle.aterm.specs.declared.file.Input.{Input}
 use Rattle.aterm.specs.declared.part.Span.{Span}
 use Rattle.aterm.specs.declared.rows.Placed.{Placed}
@@ -8,6 +8,7 @@ use Rattle.canonical.specs.Files.{said_in, values, input_value}
 use Rattle.canonical.specs.Meanings.{Meaning}
 use Rattle.hash_rows.specs.Order.{before}
 use Rattle.hash_modulo.specs.Sets.{Bytes, Row}
+use Rattle.right_paths.specs.declared.references.References.{References}
 
 -- x among the paths ys, where `rest` merges the paths after x with what is left of ys
 abbrev pub among : Bytes → (List Bytes → List Bytes) → List Bytes → List Bytes
@@ -29,9 +30,6 @@ references_of m = merged (map (λ (r : Row). r.0) m.1.0) m.1.1.0
 abbrev pub references_in : List ℕ → List (Placed Input) → List (Placed Span) → List Bytes
 references_in t inputs sources = merged (map (λ (r : Row). r.0) (values (input_value t) inputs)) (values (said_in t) sources)
 
--- from the input i and the source j on: the next reference, and the input and the source after it
-abbrev pub Next : List ℕ → List (Placed Input) → List (Placed Span) → ℕ → ℕ → Option (Span × ℕ × ℕ) → Type 0
-Next t inputs sources i j None = references_in t (drop i inputs) (drop j sources) ≡ []
-Next t inputs sources i j (Some x) =
-    (references_in t (drop i inputs) (drop j sources) ≡ said_in t x.0 ∷ references_in t (drop x.1 inputs) (drop x.2 sources))
-    × ((length inputs - x.1) + (length sources - x.2) < (length inputs - i) + (length sources - j))
+-- those that are still to come
+abbrev pub references_left : References → List Bytes
+references_left r = references_in r.text.now r.inputs.now r.sources.now

@@ -15,10 +15,10 @@ use Rattle.hash_modulo.specs.Paths.{path_string, file_name, References, OwnPath,
 use Rattle.hash_modulo.specs.Sets.{Bytes, Row}
 use Rattle.hash_modulo.specs.Strings.{own_strings, fixed_strings, output_string, FileStrings, all_lengths, no_output, Limits}
 use Rattle.right_paths.specs.Inputs.{Aligned}
-use Rattle.right_paths.specs.Pouring.{poured}
+use Rattle.right_paths.specs.Pouring.{Short, poured}
+use Rattle.right_paths.specs.declared.hashes.Counted.{Counted}
 use Rattle.right_paths.specs.declared.hashes.Digits.{Digits}
 use Rattle.right_paths.specs.declared.hashes.FileHashes.{FileHashes}
-use Rattle.right_paths.specs.declared.hashes.Located.{Located}
 
 -- the store path with these digits and this name
 abbrev pub full_store_path : List ℕ → Bytes → Bytes
@@ -36,9 +36,9 @@ pub record Workable (path : Bytes) (m : Meaning) (hashes : List Hash) : Type 0 w
 
 -- the strings of a fixed output's path are short, whatever the digest of 32 bytes
 pub record FixedShort (path : Bytes) (o : Value an_output) : Type 0 where
-  pub inner : length (inner_string o) < 1048576
-  pub source : length (path_string (codes "source") o.1.1.1 (output_name path o.0)) < 1048576
-  pub output : (h : Bytes) → length h ≤ 64 → length (path_string (codes "output:out") h (output_name path o.0)) < 1048576
+  pub inner : Short (inner_string o)
+  pub source : Short (path_string (codes "source") o.1.1.1 (output_name path o.0))
+  pub output : (h : Bytes) → length h ≤ 64 → Short (path_string (codes "output:out") h (output_name path o.0))
 
 module _ (f : Step) (start : List ℕ) (capacity : ℕ) (answer : List ℕ → List ℕ) where
   -- some strings are digested in turn from the meaning `before` on: n bytes in all, and `after` is the sink's meaning then
@@ -72,8 +72,8 @@ module _ (f : Step) (start : List ℕ) (capacity : ℕ) (answer : List ℕ → L
     pub few : n ≤ 16777216
 
   -- all that is worked out for a fixed file after its own path
-  pub record FixedRest (path : Bytes) (o : Value an_output) (own : Located) (before : sinks.Meaning) (r : FileHashes) (after : sinks.Meaning) : Type 0 where
-    pub kept : r.own.bytes ≡ own.digits.bytes
+  pub record FixedRest (path : Bytes) (o : Value an_output) (own : Counted Digits) (before : sinks.Meaning) (r : FileHashes) (after : sinks.Meaning) : Type 0 where
+    pub kept : r.own.bytes ≡ own.value.bytes
     pub hash : r.hash.bytes ≡ digest f start answer (fixed_string o)
     pub blank : r.masked.bytes ≡ replicate 32 0
     pub right : full_store_path (get_or r.outputs 0 no_digits).bytes (output_name path o.0) ≡ fixed_path (digest f start answer) path o
@@ -82,8 +82,8 @@ module _ (f : Step) (start : List ℕ) (capacity : ℕ) (answer : List ℕ → L
     pub pours : PoursAll before (fixed_string o ∷ fixed_strings (digest f start answer) path o) more after
 
   -- all that is worked out after its own path for a file that is not fixed, where these rows stand for its inputs
-  pub record TextRest (path : Bytes) (m : Meaning) (rows : List Row) (own : Located) (before : sinks.Meaning) (r : FileHashes) (after : sinks.Meaning) : Type 0 where
-    pub kept : r.own.bytes ≡ own.digits.bytes
+  pub record TextRest (path : Bytes) (m : Meaning) (rows : List Row) (own : Counted Digits) (before : sinks.Meaning) (r : FileHashes) (after : sinks.Meaning) : Type 0 where
+    pub kept : r.own.bytes ≡ own.value.bytes
     pub hash : r.hash.bytes ≡ digest f start answer (canonical (with_inputs m rows))
     pub masked : r.masked.bytes ≡ digest f start answer (canonical (with_inputs (mask m) rows))
     pub each : (i : ℕ) → i < length m.0

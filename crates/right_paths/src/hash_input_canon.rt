@@ -3,7 +3,7 @@ ghost use Rattle.canonical.specs.Meanings.{an_input};
 ghost use Rattle.right_paths.specs.Inputs.{hash_input_value};
 
 use crate::hash_input::HashInput;
-use canonical::{Canon, compare_bytes, write_after};
+use canonical::{Canon, write_after};
 use sink::{Full, Sink, write_hex};
 use std::cmp::Ordering;
 
@@ -14,7 +14,7 @@ impl Canon for HashInput {
 
     // Hex keeps the order of the bytes.
     fn order(&self, text: &[u8], other: &HashInput) -> Ordering {
-        compare_bytes(&self.hash.bytes, &other.hash.bytes)
+        self.hash.cmp(&other.hash)
     }
 
     fn arranged(self, text: &[u8]) -> HashInput {

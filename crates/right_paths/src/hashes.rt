@@ -7,22 +7,15 @@ pub struct Digits {
     pub bytes: [u8; 32],
 }
 
-// A right path by its digits, and the number of bytes that were digested for it.
+// A value, and the number of bytes that were digested for it.
 #[derive(Clone, Copy)]
-pub struct Located {
-    pub digits: Digits,
+pub struct Counted<T> {
+    pub value: T,
     pub count: u64,
 }
 
-// The outputs' right paths, rising; those past the last output are of no meaning.
-#[derive(Clone, Copy)]
-pub struct OutputDigits {
-    pub digits: [Digits; 16],
-    pub count: u64,
-}
-
-// The file's right path, its hash, its masked hash (zeros for a fixed file), its outputs' right paths, and the number of bytes
-// that were digested for all of them.
+// The file's right path, its hash, its masked hash (zeros for a fixed file), its outputs' right paths, rising (those past the last
+// output are of no meaning), and the number of bytes that were digested for all of them.
 #[derive(Clone, Copy)]
 pub struct FileHashes {
     pub own: Digits,

@@ -13,7 +13,7 @@ use crate::hash_input::HashInput;
 use aterm::{Input, Placed, Rows, Span};
 use hash_rows::{Hash, HashRows};
 
-// Each hash with the number of its row; of equal hashes the last one stands.
+// Each hash with the number of its row; of equal hashes the last one stands. Not by `gather`, which takes pairs as they stand: here no table of them is made first.
 fn by_hash(hashes: &[Hash]) -> HashRows
     requires { length hashes.now ≤ 64 }
     ensures { Gathered (numbered 0 hashes.now) (held result) }
@@ -38,23 +38,19 @@ fn with_names(inputs: &Rows<Input, 64>, table: &HashRows) -> Rows<HashInput, 64>
         place: 0,
         value: blank,
     }; 64];
-    for i in 0..table.len() {
-        match table.get(i) {
-            Some(x) => {
-                items[i] = Placed {
-                    place: 0,
-                    value: HashInput {
-                        hash: x.hash,
-                        names: inputs.items[x.row].value.names,
-                    },
-                };
-            }
-            None => unreachable(),
-        }
+    let rows = table.as_slice();
+    for (i, row) in rows.iter().enumerate() {
+        items[i] = Placed {
+            place: 0,
+            value: HashInput {
+                hash: row.hash,
+                names: inputs.items[row.row].value.names,
+            },
+        };
     }
     Rows {
         items,
-        len: table.len(),
+        len: rows.len(),
     }
 }
 

@@ -1,12 +1,11 @@
 // A derivation's outputs without their paths, and its environment without the values of its outputs.
 ghost use Rattle.std.specs.Prelude.{◌≡◌, ℕ, List, map, take};
-ghost use Rattle.canonical.specs.Decode.{said};
 ghost use Rattle.canonical.specs.Files.{values, output_value, variable_value};
 ghost use Rattle.hash_modulo.specs.Paths.{is_output, mask_output, mask_variable};
+ghost use Rattle.right_paths.specs.Views.{said_by};
 
+use crate::said::Said;
 use aterm::{Output, Placed, Rows, Span, Variable};
-use canonical::compare;
-use std::cmp::Ordering;
 
 // A string without bytes.
 const NOTHING: Span = Span { start: 0, end: 0 };
@@ -27,33 +26,25 @@ fn mask_output(output: Output) -> Output
 pub fn mask_outputs(outputs: Rows<Output, 16>) -> Rows<Output, 16>
     ensures { (t : List ℕ) → values (output_value t) (take result.len result.items) ≡ map mask_output (values (output_value t) (take outputs.len outputs.items)) }
 {
-    let mut items = outputs.items;
-    for i in 0..outputs.len {
-        items[i].value = mask_output(items[i].value);
-    }
-    Rows {
-        items,
-        len: outputs.len,
-    }
+    outputs.map(mask_output)
 }
 
 // Whether an output has this name.
-fn is_output_name(text: &[u8], outputs: &[Placed<Output>], name: Span) -> bool
-    ensures { result ≡ is_output (values (output_value text.now) outputs.now) (said text.now name.start name.«end») }
+fn is_output_name(outputs: &[Placed<Output>], name: Said<'_>) -> bool
+    ensures { result ≡ is_output (values (output_value name.entry.text.now) outputs.now) (said_by name.entry) }
 {
-    for output in outputs {
-        if let Ordering::Equal = compare(text, output.value.name, name) {
-            return true;
-        }
-    }
-    false
+    outputs.iter().any(|output| name.same(output.value.name))
 }
 
 // A variable with an empty value where its name is an output's.
 fn mask_variable(text: &[u8], outputs: &[Placed<Output>], variable: Variable) -> Variable
     ensures { variable_value text.now result ≡ mask_variable (values (output_value text.now) outputs.now) (variable_value text.now variable) }
 {
-    if is_output_name(text, outputs, variable.name) {
+    let name = Said {
+        text,
+        span: variable.name,
+    };
+    if is_output_name(outputs, name) {
         return Variable {
             name: variable.name,
             value: NOTHING,
@@ -70,12 +61,5 @@ pub fn mask_environment(
 ) -> Rows<Variable, 128>
     ensures { values (variable_value text.now) (take result.len result.items) ≡ map (mask_variable (values (output_value text.now) outputs.now)) (values (variable_value text.now) (take environment.len environment.items)) }
 {
-    let mut items = environment.items;
-    for i in 0..environment.len {
-        items[i].value = mask_variable(text, outputs, items[i].value);
-    }
-    Rows {
-        items,
-        len: environment.len,
-    }
+    environment.map(|variable| mask_variable(text, outputs, variable))
 }

@@ -1,13 +1,11 @@
 // The names that stand in store paths.
 ghost use Rattle.std.specs.Prelude.{◌≡◌};
-ghost use Rattle.canonical.specs.Decode.{said};
 ghost use Rattle.derivation.specs.Questions.{stem as stem_of, output_name};
 ghost use Rattle.hash_modulo.specs.Paths.{file_name};
-ghost use Rattle.sink.specs.Write.{Writes};
+ghost use Rattle.right_paths.specs.Views.{said_by};
 
-use crate::said::{says, write_said};
-use aterm::Span;
-use sink::{Full, Sink};
+use crate::said::Said;
+use sink::{Full, Sink, ToSink};
 
 // The name of the file at a path: all that follows `/nix/store/`, the digits and the hyphen.
 pub fn name_of(path: &[u8]) -> &[u8]
@@ -17,30 +15,45 @@ pub fn name_of(path: &[u8]) -> &[u8]
     &path[at..]
 }
 
+// The name of the file at `path`.
+#[derive(Clone, Copy)]
+pub struct FileName<'a> {
+    pub path: &'a [u8],
+}
+
+impl<'a> ToSink for FileName<'a> {
+    ghost bytes = { λ s. file_name s.path.now };
+
+    fn write_to<S: Sink>(&self, sink: &mut S) -> Result<(), Full> {
+        sink.write(name_of(self.path))
+    }
+}
+
 // The same without `.drv`.
 fn stem(path: &[u8]) -> &[u8]
     ensures { result.now ≡ stem_of path.now }
 {
-    let n = path.len();
-    if n <= 48 {
-        return &path[0..0];
-    }
-    &path[44..n - 4]
+    let name = name_of(path);
+    let end = name.len().saturating_sub(4);
+    &name[..end]
 }
 
-// The name of an output: the file's, and `-` and the output unless that is `out`.
-pub fn write_output_name<S: Sink>(
-    text: &[u8],
-    path: &[u8],
-    out: Span,
-    sink: &mut S,
-) -> Result<(), Full>
-    ensures { Writes S.step (S.held sink.old) (output_name path.now (said text.now out.start out.«end»)) result (S.held sink.new) }
-{
-    if says(text, out, b"out") {
-        return sink.write(stem(path));
+// The name of an output of the file at `path`: the file's, and `-` and the output unless that is `out`.
+#[derive(Clone, Copy)]
+pub struct OutputName<'a> {
+    pub path: &'a [u8],
+    pub out: Said<'a>,
+}
+
+impl<'a> ToSink for OutputName<'a> {
+    ghost bytes = { λ s. output_name s.path.now (said_by s.out) };
+
+    fn write_to<S: Sink>(&self, sink: &mut S) -> Result<(), Full> {
+        if self.out.says(b"out") {
+            return sink.write(stem(self.path));
+        }
+        sink.write(stem(self.path))?;
+        sink.write(b"-")?;
+        self.out.write_to(sink)
     }
-    sink.write(stem(path))?;
-    sink.write(b"-")?;
-    write_said(text, out, sink)
 }

@@ -1,46 +1,47 @@
-// What a string of the text means, without quotes and escapes.
+// A string of the text, as it is meant: without quotes and escapes.
 ghost use Rattle.std.specs.Prelude.{◌≡◌, [], Decides};
-ghost use Rattle.canonical.specs.Decode.{said};
-ghost use Rattle.sink.specs.Write.{Writes};
+ghost use Rattle.canonical.specs.Files.{said_in};
+ghost use Rattle.right_paths.specs.Views.{said_by};
 
 use aterm::Span;
-use canonical::next;
-use sink::{Full, Sink};
+use sink::{Full, Sink, ToSink};
 
-// Writes the bytes that a string means, as they are.
-pub fn write_said<S: Sink>(text: &[u8], span: Span, sink: &mut S) -> Result<(), Full>
-    ensures { Writes S.step (S.held sink.old) (said text.now span.start span.«end») result (S.held sink.new) }
-{
-    let mut at = span.start;
-    while let Some((b, after)) = next(text, at, span.end) {
-        sink.write(&[b])?;
-        at = after;
-    }
-    Ok(())
+#[derive(Clone, Copy)]
+pub struct Said<'a> {
+    pub text: &'a [u8],
+    pub span: Span,
 }
 
-// Whether a string means nothing.
-pub fn is_blank(text: &[u8], span: Span) -> bool
-    ensures { Decides result (said text.now span.start span.«end» ≡ []) }
-{
-    next(text, span.start, span.end).is_none()
-}
+impl<'a> ToSink for Said<'a> {
+    ghost bytes = { λ s. said_by s };
 
-// Whether a string means this word.
-pub fn says(text: &[u8], span: Span, word: &[u8]) -> bool
-    ensures { Decides result (said text.now span.start span.«end» ≡ word.now) }
-{
-    let mut at = span.start;
-    for b in word {
-        match next(text, at, span.end) {
-            Some((x, after)) => {
-                if x != *b {
-                    return false;
-                }
-                at = after;
-            }
-            None => return false,
+    fn write_to<S: Sink>(&self, sink: &mut S) -> Result<(), Full> {
+        for b in self.span.meant(self.text) {
+            sink.write(&[b])?;
         }
+        Ok(())
     }
-    next(text, at, span.end).is_none()
+}
+
+impl<'a> Said<'a> {
+    // Whether it means nothing.
+    pub fn is_blank(self) -> bool
+        ensures { Decides result (said_by self.entry ≡ []) }
+    {
+        self.span.meant(self.text).next().is_none()
+    }
+
+    // Whether it means this word.
+    pub fn says(self, word: &[u8]) -> bool
+        ensures { Decides result (said_by self.entry ≡ word.now) }
+    {
+        self.span.meant(self.text).eq(word.iter().copied())
+    }
+
+    // Whether another string of its text means the same.
+    pub fn same(self, other: Span) -> bool
+        ensures { Decides result (said_by self.entry ≡ said_in self.entry.text.now other) }
+    {
+        self.span.meant(self.text).eq(other.meant(self.text))
+    }
 }

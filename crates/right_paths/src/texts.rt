@@ -3,20 +3,14 @@ ghost use Rattle.std.specs.Prelude.{take};
 ghost use Rattle.canonical.specs.Files.{values, derivation_value};
 ghost use Rattle.canonical.specs.Meanings.{canonical};
 ghost use Rattle.hash_modulo.specs.Hashes.{with_inputs};
-ghost use Rattle.hash_modulo.specs.Paths.{path_string, file_name, own_type, masked};
-ghost use Rattle.sink.specs.Numerals.{hex};
+ghost use Rattle.hash_modulo.specs.Paths.{masked};
 ghost use Rattle.right_paths.specs.Inputs.{hash_input_value};
-ghost use Rattle.right_paths.specs.References.{references_of};
 
-use crate::digests::ToSink;
 use crate::hash_input::HashInput;
 use crate::masked::{mask_environment, mask_outputs};
-use crate::names::name_of;
-use crate::references::write_references;
-use crate::strings::write_hash;
 use aterm::{Derivation, Rows};
 use canonical::{write_derivation, write_fields};
-use sink::{Full, Sink};
+use sink::{Full, Sink, ToSink};
 
 // The canonical text.
 #[derive(Clone, Copy)]
@@ -30,25 +24,6 @@ impl<'a> ToSink for CanonicalText<'a> {
 
     fn write_to<S: Sink>(&self, sink: &mut S) -> Result<(), Full> {
         write_derivation(self.text, self.file, sink)
-    }
-}
-
-// The string of the file's own path, by the digest of its canonical text.
-#[derive(Clone, Copy)]
-pub struct OwnString<'a> {
-    pub path: &'a [u8],
-    pub text: &'a [u8],
-    pub file: &'a Derivation,
-    pub hash: [u8; 32],
-}
-
-impl<'a> ToSink for OwnString<'a> {
-    ghost bytes = { λ s. path_string (own_type (references_of (derivation_value s.text.now s.file.now))) (hex s.hash) (file_name s.path.now) };
-
-    fn write_to<S: Sink>(&self, sink: &mut S) -> Result<(), Full> {
-        write_references(self.text, self.file, sink)?;
-        write_hash(&self.hash, sink)?;
-        sink.write(name_of(self.path))
     }
 }
 

@@ -1,5 +1,5 @@
 -- The string and the two files of the table.
-use Rattle.std.proofs.Common.{◌≡◌, ℕ, suc, Bool, true, false, T, eqb, List, [], ◌∷◌, codes, sym, refl, subst, inl, inr, arith, lit≤, eqb→eq}
+use Rattle.std.proofs.Common.{◌≡◌, ℕ, suc, Bool, true, false, T, eqb, List, [], ◌∷◌, codes, sym, refl, subst, inl, inr, arith, lit≤, eqb→eq, Ok, Err}
 use Rattle.std.specs.List.{ContainsAt as Has, AllByRecursion}
 use Rattle.aterm.specs.Files.{output, variable, derivation, whole}
 use Rattle.aterm.specs.Grammar.{Char, plain, escaped, ordinary, Tree, Within, signs}
@@ -9,6 +9,7 @@ use Rattle.canonical.specs.Meanings.{an_output, a_variable, Meaning, canonical}
 use Rattle.canonical.proofs.Members.{same_refl}
 use Rattle.derivation.specs.Asked.{Throughout}
 use Rattle.derivation.specs.Questions.{different_variable, md5, sha1, sha256, sha512, Given}
+use Rattle.derivation.specs.declared.field.Field.TheVariants.{Environment}
 use Rattle.derivation.specs.declared.spot.Spot.{Spot}
 use Rattle.file_meaning.specs.Reads.{Reads}
 use Rattle.file_meaning.proofs.Clean.{clean_plain, clean_name, clean_store}
@@ -21,8 +22,7 @@ use Rattle.store_path.specs.Base32.{base32, fold}
 use Rattle.store_path.specs.Names.{Name, StorePath, name_bytes, digits_32}
 use Rattle.verdict.specs.Judged.{Judged, hashed, right, wrong_variable, nowhere}
 use Rattle.verdict.specs.declared.fault.Fault.TheVariants.{Unhashed, WrongVariable}
-use Rattle.verdict.specs.declared.fault.Verdict.{Verdict}
-use Rattle.verdict.specs.declared.fault.Verdict.TheVariants.{Accepted, Refused}
+use Rattle.verdict.specs.Verdicts.{Verdict}
 use Rattle.verdict.proofs.One.{one_verdict}
 use Rattle.samples_of_verdicts.specs.Samples.{Said, VerdictIs, only_file, path, right_text, bare_text}
 use Rattle.samples.specs.Zeros.{zero_answer}
@@ -187,14 +187,14 @@ output_right env g =
 
 -- ---- their verdicts
 
-unhashed_not : (s : Spot) → Accepted ≡ Refused (Unhashed s) → ⊥
+unhashed_not : (s : Spot) → ◌≡◌ {A = Verdict} (Ok tt) (Err (Unhashed s)) → ⊥
 unhashed_not s e = let z : ◌≡◌ {A = ℕ} 0 1 = cc in omega arith
 
-variable_not : (s t : Spot) → Refused (WrongVariable s) ≡ Refused (Unhashed t) → ⊥
+variable_not : (s t : Spot) → ◌≡◌ {A = Verdict} (Err (WrongVariable s)) (Err (Unhashed t)) → ⊥
 variable_not s t e = let z : ◌≡◌ {A = ℕ} 0 1 = cc in omega arith
 
 -- a verdict that is not 20 is the only one
-only : (set : Files) (p : Bytes) (v : Verdict) → ((s : Spot) → v ≡ Refused (Unhashed s) → ⊥) → Judged set zero_answer p v → VerdictIs set p v
+only : (set : Files) (p : Bytes) (v : Verdict) → ((s : Spot) → v ≡ Err (Unhashed s) → ⊥) → Judged set zero_answer p v → VerdictIs set p v
 only set p v other j = record { judged = j; only = λ w k. elim (one_verdict set zero_answer p w v k j) [ inl e ↦ e | inr b ↦ absurd (other b.two b.second) ] }
 
 -- with an environment that has the output
@@ -214,24 +214,24 @@ right_means = record {
       (a_row ∷ [], (((refl, refl), tt), record { same = same_refl (a_row ∷ []); rises = (tt, tt) }));
 }
 
-pub accepted : VerdictIs (only_file path right_text) path Accepted
+pub accepted : VerdictIs (only_file path right_text) path (Ok tt)
 unfolding right_text right_means reads
 accepted =
     let env : List (Value a_variable) = a_row ∷ [] in
     let o : OutputPath zero_answer path (λ _. []) (meant_by env) an_out out_path = output_right env (λ _. []) in
-    only (only_file path right_text) path Accepted unhashed_not
+    only (only_file path right_text) path (Ok tt) unhashed_not
     (hashed (meant_by env) right_means tt tt (λ _. []) (λ r i. absurd i) (right (own env) (o, tt) ((variable_row, inl refl, refl, o), tt) refl refl))
 
 bare_means : Means (only_file path bare_text) path (meant_by [])
 unfolding path bare_text
 bare_means = record { text = bare_text; at = refl; reads = reads bare_text [] [] refl tt (lit≤ tt, tt) ([], (tt, record { same = same_refl []; rises = tt })) }
 
-pub wrong : VerdictIs (only_file path bare_text) path (Refused (WrongVariable (record { field = 7; row = 0; place = 0 })))
+pub wrong : VerdictIs (only_file path bare_text) path (Err (WrongVariable (record { field = Environment; row = 0; place = 0 })))
 unfolding bare_means reads
 wrong =
-    let w : Spot = record { field = 7; row = 0; place = 0 } in
+    let w : Spot = record { field = Environment; row = 0; place = 0 } in
     let o : OutputPath zero_answer path (λ _. []) (meant_by []) an_out out_path = output_right [] (λ _. []) in
-    only (only_file path bare_text) path (Refused (WrongVariable w)) (variable_not w)
+    only (only_file path bare_text) path (Err (WrongVariable w)) (variable_not w)
     (hashed (meant_by []) bare_means tt tt (λ _. []) (λ r i. absurd i)
     (wrong_variable (own []) (o, tt) _ (record { before = []; row = ([], out_row); after = []; whole = refl; clean = tt; refused = λ z. z.1 })
     w (nowhere (λ v i. absurd i) refl) refl))

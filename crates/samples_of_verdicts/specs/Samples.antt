@@ -1,17 +1,17 @@
 -- Worked examples of the definitions as one table: what is found by them and what is wanted, a string, and files with their verdicts.
 -- Source: the rules of base 32, of the fold, of strings and of verdicts as `store_path`, `canonical` and `verdict` state them, worked by hand.
-use Rattle.std.specs.Prelude.{◌≡◌, ◌-◌, cond, List, [], ◌∷◌, ◌++◌, length, replicate, Some, None, codes}
+use Rattle.std.specs.Prelude.{◌≡◌, ◌-◌, cond, List, [], ◌∷◌, ◌++◌, length, replicate, Some, None, codes, Ok, Err}
 use Rattle.std.specs.List.{AllByRecursion}
 use Rattle.std.specs.Str.{bytes_eq}
 use Rattle.aterm.specs.Grammar.{Char, raw, meaning}
 use Rattle.canonical.specs.Decode.{said}
 use Rattle.canonical.specs.Strings.{quoted}
+use Rattle.derivation.specs.declared.field.Field.TheVariants.{Environment}
 use Rattle.hash_modulo.specs.Sets.{Bytes, Files}
 use Rattle.store_path.specs.Base32.{base32, fold}
 use Rattle.verdict.specs.Judged.{Judged}
 use Rattle.verdict.specs.declared.fault.Fault.TheVariants.{WrongVariable}
-use Rattle.verdict.specs.declared.fault.Verdict.{Verdict}
-use Rattle.verdict.specs.declared.fault.Verdict.TheVariants.{Accepted, Refused}
+use Rattle.verdict.specs.Verdicts.{Verdict}
 use Rattle.samples.specs.Zeros.{zero_answer}
 
 -- one example: what is found and what is wanted; a string with its quotes, what it means and its canonical text; the verdict of the file at a path of a set
@@ -60,8 +60,8 @@ samples =
     ∷ sample (base32 (replicate 20 255)) (codes "zzzzzzzzzzzzzzzzzzzzzzzzzzzzzzzz")
     ∷ sample (fold (replicate 32 1)) (replicate 12 0 ++ replicate 8 1)
     ∷ string (codes "\"\\a\"") (codes "a") (codes "\"a\"")
-    ∷ judged (only_file path right_text) path Accepted
-    ∷ judged (only_file path bare_text) path (Refused (WrongVariable (record { field = 7; row = 0; place = 0 })))
+    ∷ judged (only_file path right_text) path (Ok tt)
+    ∷ judged (only_file path bare_text) path (Err (WrongVariable (record { field = Environment; row = 0; place = 0 })))
     ∷ []
 
 -- each is as it is wanted

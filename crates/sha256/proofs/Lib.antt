@@ -1,4 +1,4 @@
-pub mod Blocks
 pub mod Ends
+pub mod Rounds
 pub mod Sinks
 pub mod Steps

@@ -1,15 +1,16 @@
 -- What a hasher means as a sink after begin, after a string that it took, and after one that it refused.
-use Rattle.std.proofs.Common.{◌≡◌, ℕ, ◌+◌, ◌-◌, ◌%◌, ◌^◌, ◌<◌, ◌≤◌, List, [], length, Ok, Err, Result, sym, refl, ap, ◌∙◌, arith, MatchResult}
+use Rattle.std.proofs.Common.{◌≡◌, ℕ, ◌+◌, ◌-◌, ◌%◌, ◌^◌, ◌<◌, ◌≤◌, List, [], length, Ok, Err, Result, sym, refl, ◌∙◌, arith, MatchResult}
 use Rattle.std.proofs.lemmas.List.{drop_all}
 use Rattle.sink.specs.Digest.{Begins, Digests}
 use Rattle.sink.specs.Write.{Meaning, steps, filled, Taken, Stopped}
 use Rattle.sink.proofs.Writing.{meant, parts, kept}
-use Rattle.sha256.specs.Fips.{H0, digest}
-use Rattle.sha256.specs.Hashing.{laid, start, step, answer, held}
+use Rattle.sha256.specs.Fips.{digest}
+use Rattle.sha256.specs.Taking.{step}
+use Rattle.sha256.specs.Hashing.{start, answer, held}
 use Rattle.sha256.proofs.Steps.{standard}
 
-pub begun_is : (x w : List ℕ) (n t : ℕ) → w ≡ H0 → Begins start 16777216 (held x n t).meaning (held (laid w 0 []) 0 t).meaning
-begun_is x w n t e = record { is = meant _ _ _ _ _ _ (ap (λ (v : List ℕ). laid v 0 []) e) refl refl; large = omega arith }
+pub begun_is : (x y : List ℕ) (n t : ℕ) → y ≡ start → Begins start 16777216 (held x n t).meaning (held y 0 t).meaning
+begun_is x y n t e = record { is = meant _ _ _ _ _ _ e refl refl; large = omega arith }
 
 pub held_taken : (x y : List ℕ) (n m t u : ℕ) (bs : List ℕ) → n + length bs ≤ 16777216 → y ≡ steps step x bs → m ≡ n + length bs → u % 2 ^ 64 ≡ (t + length bs) % 2 ^ 64 → Taken step (held x n t) bs (held y m u)
 unfolding filled

@@ -1,17 +1,17 @@
 -- Steps byte by byte, and the blocks that they come to.
-use Rattle.std.proofs.Common.{◌≡◌, ℕ, zero, suc, ◌+◌, ◌-◌, ◌*◌, ◌/◌, ◌%◌, ◌<◌, ◌≤◌, cond, List, [], ◌∷◌, ◌++◌, length, get_or, take, drop, sym, refl, ap, ◌∙◌, append_assoc, append-nil, add-zero, suc-add, zero-add, arith, eq-eqb, ne_eqb}
-use Rattle.std.proofs.lemmas.List.{take_at, drop_at, get_or_at, drop-drop, take-append-le, drop-append-le, length-drop, length-take-le, length-append, take-append-drop, length_push, nil_from_length, take_rest}
+use Rattle.std.proofs.Common.{◌≡◌, ℕ, zero, suc, ◌+◌, ◌*◌, ◌/◌, ◌%◌, ◌<◌, ◌≤◌, cond, List, [], ◌∷◌, ◌++◌, length, get_or, take, drop, sym, refl, ap, ◌∙◌, append_assoc, append-nil, add-zero, suc-add, zero-add, arith, eq-eqb, ne_eqb}
+use Rattle.std.proofs.lemmas.List.{take_at, drop_at, get_or_at, drop-drop, take-append-le, drop-append-le, length-drop, length-take-le, length-append, take-append-drop, length_push, nil_from_length}
 use Rattle.sha256.specs.Fips.{H0, block, blocks, tail, spelled, digest}
 use Rattle.sink.specs.Write.{steps}
 use Rattle.sha256.specs.Bytes.{wrote}
-use Rattle.sha256.specs.Hashing.{laid, stepped, step, start, finished, answer}
+use Rattle.sha256.specs.Taking.{laid, stepped, step, unfinished, Takes}
+use Rattle.sha256.specs.Hashing.{start, finished, answer}
+use Rattle.sha256.specs.declared.blocks.Blocks.{Blocks}
+use Rattle.std.specs.List.{fold}
+use Rattle.std.specs.Simd.{first_chunks}
 use Rattle.sha256.proofs.Ends.{wrote_front, wrote_all}
 
 -- ---- runs of blocks
-
-pub blocks_none : (h bs : List ℕ) → h ≡ blocks 0 h bs
-unfolding blocks
-blocks_none h bs = refl
 
 blocks_add : (n m : ℕ) (h bs : List ℕ) → blocks (n + m) h bs ≡ blocks m (blocks n h bs) (drop (64 * n) bs)
 unfolding blocks
@@ -21,12 +21,11 @@ blocks_add (suc n) m h bs =
     ∙ ap (λ l. blocks m (blocks n (block h (take 64 bs)) (drop 64 bs)) l)
     (drop-drop (64 * n) 64 bs ∙ ap (λ k. drop k bs) (let e : 64 + 64 * n ≡ 64 * suc n = omega arith in e))
 
-blocks_one : (h bs : List ℕ) → blocks 1 h bs ≡ block h (take 64 bs)
+-- the hash of some blocks, one after another
+pub blocks_fold : (n : ℕ) (h bs : List ℕ) → fold block h (first_chunks 64 n bs) ≡ blocks n h bs
 unfolding blocks
-blocks_one h bs = refl
-
-pub blocks_more : (n : ℕ) (h bs : List ℕ) → blocks (n + 1) h bs ≡ block (blocks n h bs) (take 64 (drop (64 * n) bs))
-blocks_more n h bs = blocks_add n 1 h bs ∙ blocks_one _ _
+blocks_fold zero h bs = refl
+blocks_fold (suc n) h bs = blocks_fold n (block h (take 64 bs)) (drop 64 bs)
 
 blocks_front : (n : ℕ) (h xs ys : List ℕ) → 64 * n ≤ length xs → blocks n h (xs ++ ys) ≡ blocks n h xs
 unfolding blocks
@@ -143,15 +142,25 @@ module _ (w d e : List ℕ) (n f : ℕ) (src : List ℕ) (lw : length w ≡ 8) (
       (λ i. laid (hashed i) (n + length src) ((ap (take (length src % 64)) is ∙ wrote_front d rest 0 (length src % 64) (omega arith) (omega arith) ∙ left) i))
       ∙ sym (ap (λ k. steps step (laid w n (take k d)) src) none ∙ steps_bulk (length src / 64) w n src lw refl)
 
-pub answer_from : (w last h r p : List ℕ) (n : ℕ) → length w ≡ 8 → last ≡ p ++ tail n → h ≡ blocks (length last / 64) w last → r ≡ spelled h → r ≡ answer (laid w n p)
-answer_from w last h r p n lw is hashed said =
-    said ∙ ap spelled (hashed ∙ ap (λ l. blocks (length l / 64) w l) is) ∙ sym (answer_is w n p lw)
+-- one string taken, and then another
+pub takes_then : {a b c : Blocks} {xs p q : List ℕ} → p ++ q ≡ xs → Takes a p b → Takes b q c → Takes a xs c
+takes_then {a} {b} {c} {xs} {p} {q} e t u = record {
+  state = λ n.
+      let long : n + length xs ≡ n + length p + length q = omega (arith, ap length e, length-append p q) in
+      ap (unfinished c) long ∙ u.state (n + length p) ∙ ap (λ s. steps step s q) (t.state n) ∙ sym (steps_append (unfinished a n) p q) ∙ ap (steps step (unfinished a n)) e;
+  filled = omega (arith, ap length e, length-append p q, t.filled, u.filled);
+}
 
--- bytes in two parts, as `&bytes[0..k]` and `&bytes[k..]` are read
-pub steps_split : (s xs : List ℕ) (k : ℕ) → steps step (steps step s (take (k - 0) xs)) (take (length xs - k) (drop k xs)) ≡ steps step s xs
-steps_split s xs k =
-    (λ i. steps step (steps step s (take ((let z : k - 0 ≡ k = omega arith in z) i) xs)) (take_rest xs k i))
-    ∙ sym (steps_append s (take k xs) (drop k xs)) ∙ ap (steps step s) (take-append-drop k xs)
+-- the words after a string: those after all whole blocks of the unfinished one and the string
+pub words_after : (w p xs v q : List ℕ) (m : ℕ) → length w ≡ 8 → length v ≡ 8 → length p < 64 → laid v m q ≡ steps step (laid w (0 + length p) p) xs → v ≡ blocks (length (p ++ xs) / 64) w (p ++ xs)
+words_after w p xs v q m lw lv h e =
+    let k : ℕ = length (p ++ xs) / 64 in
+    let whole : laid v m q ≡ laid (blocks k w (p ++ xs)) (0 + length (p ++ xs)) (drop (64 * k) (p ++ xs)) =
+    e ∙ ap (λ s. steps step s xs) (sym (steps_part w 0 [] p lw (omega arith))) ∙ sym (steps_append (laid w 0 []) p xs) ∙ steps_bulk k w 0 (p ++ xs) lw refl in
+    sym (words_of v m q lv) ∙ ap (take 8) whole ∙ words_of (blocks k w (p ++ xs)) _ _ (length_blocks k w (p ++ xs) lw)
+
+pub answer_from : (w p v q r : List ℕ) (m n : ℕ) → length w ≡ 8 → length v ≡ 8 → length p < 64 → laid v m q ≡ steps step (laid w (0 + length p) p) (tail n) → r ≡ spelled v → r ≡ answer (laid w n p)
+answer_from w p v q r m n lw lv h e said = said ∙ ap spelled (words_after w p (tail n) v q m lw lv h e) ∙ sym (answer_is w n p lw)
 
 -- ---- the law
 

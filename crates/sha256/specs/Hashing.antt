@@ -1,27 +1,17 @@
 -- SHA-256 taken one byte at a time: the state of a hasher, its start, its step and its answer, and what the hasher means as a sink.
 -- Source: FIPS 180-4, sections 5.2.1 and 6.2 (block by block) and 5.1.1 (padding); how the state is laid out is this project's own.
-use Rattle.std.specs.Prelude.{ℕ, ◌+◌, ◌-◌, ◌/◌, ◌%◌, ◌^◌, ◌<◌, cond, List, [], ◌∷◌, ◌++◌, length, take, drop, ◌==◌, slice_index}
+use Rattle.std.specs.Prelude.{ℕ, ◌-◌, ◌/◌, ◌%◌, ◌^◌, ◌<◌, List, [], ◌++◌, length, take, drop, slice_index}
 use Rattle.std.proofs.Common.{arith}
 use Rattle.sink.specs.Write.{Meaning, Held}
-use Rattle.sha256.specs.Fips.{H0, block, blocks, tail, spelled}
+use Rattle.sha256.specs.Fips.{H0, blocks, tail, spelled}
+pub use Rattle.sha256.specs.Taking.{laid, unfinished, stepped, step}
 use Rattle.sha256.specs.declared.hasher.Sha256.{Sha256}
 
--- a state: the eight words, the length of the message, and the bytes of the unfinished block
-abbrev pub laid : List ℕ → ℕ → List ℕ → List ℕ
-laid w n p = w ++ n ∷ p
-
 abbrev pub state : Sha256 → List ℕ
-state s = laid s.words s.count (take s.filled s.block)
+state s = unfinished s.blocks s.count
 
 abbrev pub start : List ℕ
 start = laid H0 0 []
-
--- p is the unfinished block with the new byte: a whole one is hashed
-abbrev pub stepped : List ℕ → ℕ → List ℕ → List ℕ
-stepped w n p = cond (length p == 64) (laid (block w p) (n + 1) []) (laid w (n + 1) p)
-
-unfoldable pub step : List ℕ → ℕ → List ℕ
-step s b = stepped (take 8 s) (slice_index s 8) (drop 9 s ++ b ∷ [])
 
 -- the words after the padding's blocks, spelled
 abbrev pub finished : List ℕ → ℕ → List ℕ → List ℕ

@@ -1,3 +1,4 @@
 pub mod Bytes
 pub mod Fips
 pub mod Hashing
+pub mod Taking

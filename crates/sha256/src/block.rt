@@ -1,8 +1,9 @@
 // The hash of one block: FIPS 180-4, 6.2.2.
-ghost use Rattle.std.specs.Prelude.{◌≡◌, ℕ, ◌+◌, ◌/◌, ◌<◌, ◌≤◌, List, length, take};
+ghost use Rattle.std.specs.Prelude.{◌≡◌, ℕ, ◌+◌, ◌<◌, ◌≤◌, List, take, fold, zip};
 ghost use Rattle.sha256.specs.Fips as fips;
 
 use crate::words;
+use std::array;
 
 // W_t from the words before it.
 fn mixed(w: &[u32; 64], t: usize) -> u32
@@ -15,140 +16,84 @@ fn mixed(w: &[u32; 64], t: usize) -> u32
         .wrapping_add(w[t - 16])
 }
 
-// Stores the word t.
-fn extend(w: &mut [u32; 64], t: usize)
-    requires { (16 ≤ t) × (t < 64) }
-    ensures { (b : List ℕ) → take t w.old ≡ fips.schedule t b → take (t + 1) w.new ≡ fips.schedule (t + 1) b }
+// Stores the eight words from `at` on. Each is mixed of those 2, 7, 15 and 16 places before it, so this goes by places.
+fn extend(w: &mut [u32; 64], at: usize)
+    requires { (16 ≤ at) × (at ≤ 56) }
+    ensures { (b : List ℕ) → take at w.old ≡ fips.schedule at b → take (at + 8) w.new ≡ fips.schedule (at + 8) b }
 {
-    w[t] = mixed(w, t);
+    for t in at..at + 8 {
+        let next = mixed(w, t);
+        w[t] = next;
+    }
 }
 
-// Stores the eight words from t on.
-fn extend8(w: &mut [u32; 64], t: usize)
-    requires { (16 ≤ t) × (t ≤ 56) }
-    ensures { (b : List ℕ) → take t w.old ≡ fips.schedule t b → take (t + 8) w.new ≡ fips.schedule (t + 8) b }
-{
-    extend(w, t);
-    extend(w, t + 1);
-    extend(w, t + 2);
-    extend(w, t + 3);
-    extend(w, t + 4);
-    extend(w, t + 5);
-    extend(w, t + 6);
-    extend(w, t + 7);
-}
-
-fn schedule(block: &[u8]) -> [u32; 64]
-    requires { length block.now ≡ 64 }
+// The words of a block.
+fn schedule(block: &[u8; 64]) -> [u32; 64]
     ensures { result ≡ fips.schedule 64 block.now }
 {
     let mut w = [0u32; 64];
-    'first: for t in 0..16 {
-        w[t] = words::word(block, t);
+    'first: for (t, bytes) in block.as_chunks().0.iter().enumerate() {
+        w[t] = u32::from_be_bytes(*bytes);
     }
     'rest: for q in 2..8 {
-        extend8(&mut w, 8 * q);
+        extend(&mut w, 8 * q);
     }
     w
-}
-
-fn temp1(s: &[u32; 8], k: u32, w: u32) -> u32
-    ensures { result ≡ fips.t1 s.now k w }
-{
-    s[7].wrapping_add(words::big_sigma1(s[4]))
-        .wrapping_add(words::ch(s[4], s[5], s[6]))
-        .wrapping_add(k)
-        .wrapping_add(w)
-}
-
-fn temp2(s: &[u32; 8]) -> u32
-    ensures { result ≡ fips.t2 s.now }
-{
-    words::big_sigma0(s[0]).wrapping_add(words::maj(s[0], s[1], s[2]))
 }
 
 fn round(s: [u32; 8], k: u32, w: u32) -> [u32; 8]
     ensures { result ≡ fips.round s k w }
 {
-    let t1 = temp1(&s, k, w);
-    let t2 = temp2(&s);
-    [
-        t1.wrapping_add(t2),
-        s[0],
-        s[1],
-        s[2],
-        s[3].wrapping_add(t1),
-        s[4],
-        s[5],
-        s[6],
-    ]
+    let [a, b, c, d, e, f, g, h] = s;
+    let t1 = h
+        .wrapping_add(words::big_sigma1(e))
+        .wrapping_add(words::ch(e, f, g))
+        .wrapping_add(k)
+        .wrapping_add(w);
+    let t2 = words::big_sigma0(a).wrapping_add(words::maj(a, b, c));
+    [t1.wrapping_add(t2), a, b, c, d.wrapping_add(t1), e, f, g]
 }
 
-// The round t.
-fn one(s: [u32; 8], w: &[u32; 64], t: usize) -> [u32; 8]
-    requires { t < 64 }
-    ensures { (h : List ℕ) → s ≡ fips.rounds t w.now h → result ≡ fips.rounds (t + 1) w.now h }
+// Eight rounds, by their words and constants. They are written out, since a fold over the words one by one takes a fifth longer:
+// here each word of the state is again in its own register at the end.
+fn eight(s: [u32; 8], part: (&[u32; 8], &[u32; 8])) -> [u32; 8]
+    ensures { result ≡ fips.rounded s (zip part.entry.0.now part.entry.1.now) }
 {
-    round(s, words::constant(t), w[t])
-}
-
-// The eight rounds from t on: compiled, each word is again in its own register at the end.
-fn eight(s0: [u32; 8], w: &[u32; 64], t: usize) -> [u32; 8]
-    requires { t ≤ 56 }
-    ensures { (h : List ℕ) → s0 ≡ fips.rounds t w.now h → result ≡ fips.rounds (t + 8) w.now h }
-{
-    let s1 = one(s0, w, t);
-    let s2 = one(s1, w, t + 1);
-    let s3 = one(s2, w, t + 2);
-    let s4 = one(s3, w, t + 3);
-    let s5 = one(s4, w, t + 4);
-    let s6 = one(s5, w, t + 5);
-    let s7 = one(s6, w, t + 6);
-    one(s7, w, t + 7)
+    let (w, k) = part;
+    let s1 = round(s, k[0], w[0]);
+    let s2 = round(s1, k[1], w[1]);
+    let s3 = round(s2, k[2], w[2]);
+    let s4 = round(s3, k[3], w[3]);
+    let s5 = round(s4, k[4], w[4]);
+    let s6 = round(s5, k[5], w[5]);
+    let s7 = round(s6, k[6], w[6]);
+    round(s7, k[7], w[7])
 }
 
 fn rounds(start: [u32; 8], w: &[u32; 64]) -> [u32; 8]
     ensures { result ≡ fips.rounds 64 w.now start }
 {
-    let mut s = start;
-    for q in 0..8 {
-        let next = eight(s, w, 8 * q);
-        s = next;
-    }
-    s
+    let (words, _) = w.as_chunks();
+    let (constants, _) = words::constants().as_chunks();
+    words.iter().zip(constants).fold(start, eight)
 }
 
 fn added(h: [u32; 8], s: [u32; 8]) -> [u32; 8]
     ensures { result ≡ fips.added h s }
 {
-    [
-        s[0].wrapping_add(h[0]),
-        s[1].wrapping_add(h[1]),
-        s[2].wrapping_add(h[2]),
-        s[3].wrapping_add(h[3]),
-        s[4].wrapping_add(h[4]),
-        s[5].wrapping_add(h[5]),
-        s[6].wrapping_add(h[6]),
-        s[7].wrapping_add(h[7]),
-    ]
+    array::from_fn(|i| s[i].wrapping_add(h[i]))
 }
 
-pub fn compress(h: [u32; 8], block: &[u8]) -> [u32; 8]
-    requires { length block.now ≡ 64 }
+pub fn compress(h: [u32; 8], block: &[u8; 64]) -> [u32; 8]
     ensures { result ≡ fips.block h block.now }
 {
     let w = schedule(block);
     added(h, rounds(h, &w))
 }
 
-// The words after every whole block of `bytes`.
-pub fn whole_blocks(start: [u32; 8], bytes: &[u8]) -> [u32; 8]
-    ensures { result ≡ fips.blocks (length bytes.now / 64) start bytes.now }
+// The words after some blocks.
+pub fn compress_all(start: [u32; 8], blocks: &[[u8; 64]]) -> [u32; 8]
+    ensures { result ≡ fold fips.block start blocks.now }
 {
-    let mut h = start;
-    for i in 0..bytes.len() / 64 {
-        let next = compress(h, &bytes[64 * i..64 * i + 64]);
-        h = next;
-    }
-    h
+    blocks.iter().fold(start, compress)
 }

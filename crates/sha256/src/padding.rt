@@ -1,7 +1,29 @@
 // The end of a message and the spelling of its digest: FIPS 180-4, 5.1.1 and 6.2.
-ghost use Rattle.std.specs.Prelude.{◌≡◌, ◌+◌, ◌%◌, ◌≤◌, ◌++◌, length, take};
+ghost use Rattle.std.specs.Prelude.{◌≡◌, ◌+◌, ◌*◌, ◌≤◌, ◌∷◌, length, replicate};
 ghost use Rattle.sha256.specs.Fips as fips;
 ghost use Rattle.sha256.specs.Bytes.{wrote};
+
+// The longest filler.
+static FILLER: [u8; 64] = [
+    128, 0, 0, 0, 0, 0, 0, 0, 0, 0, 0, 0, 0, 0, 0, 0, 0, 0, 0, 0, 0, 0, 0, 0, 0, 0, 0, 0, 0, 0, 0,
+    0, 0, 0, 0, 0, 0, 0, 0, 0, 0, 0, 0, 0, 0, 0, 0, 0, 0, 0, 0, 0, 0, 0, 0, 0, 0, 0, 0, 0, 0, 0, 0,
+    0,
+];
+
+// What stands between a message of `count` bytes and its length.
+pub fn filler(count: u64) -> &'static [u8]
+    ensures { result.now ≡ 128 ∷ replicate (fips.zeros count) 0 }
+{
+    &FILLER[..(119 - count as usize % 64) % 64 + 1]
+}
+
+// The length of a message, in bits.
+pub fn bits(count: u64) -> [u8; 8]
+    requires { count ≤ 16777216 }
+    ensures { result ≡ fips.be64 (8 * count) }
+{
+    (8 * count).to_be_bytes()
+}
 
 // Copies `src` over `dst`, from the place `at` on.
 pub fn put(dst: &mut [u8], at: usize, src: &[u8])
@@ -16,23 +38,9 @@ pub fn spell(h: [u32; 8]) -> [u8; 32]
     ensures { result ≡ fips.spelled h }
 {
     let mut out = [0u8; 32];
-    for i in 0..8 {
-        let bytes = h[i].to_be_bytes();
+    for (i, word) in h.iter().enumerate() {
+        let bytes = word.to_be_bytes();
         put(&mut out, 4 * i, &bytes);
     }
     out
-}
-
-// The last one or two blocks of a message of `count` bytes, and how many bytes they are.
-pub fn padding(kept: &[u8; 64], filled: usize, count: u64) -> ([u8; 128], usize)
-    requires { (filled ≡ count % 64) × (count ≤ 16777216) }
-    ensures { (result.1 ≤ 128) × (take result.1 result.0 ≡ take filled kept.now ++ fips.tail count) }
-{
-    let mut last = [0u8; 128];
-    let end = filled + 9 + (119 - filled) % 64;
-    let bits = (8 * count).to_be_bytes();
-    put(&mut last, 0, &kept[0..filled]);
-    last[filled] = 128;
-    put(&mut last, end - 8, &bits);
-    (last, end)
 }

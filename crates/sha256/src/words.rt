@@ -13,11 +13,11 @@ static ROUND: [u32; 64] = [
     0x748f82ee, 0x78a5636f, 0x84c87814, 0x8cc70208, 0x90befffa, 0xa4506ceb, 0xbef9a3f7, 0xc67178f2,
 ];
 
-pub fn constant(t: usize) -> u32
-    requires { t < 64 }
-    ensures { result ≡ slice_index fips.K t }
+// A constant for each round.
+pub fn constants() -> &'static [u32; 64]
+    ensures { result.now ≡ fips.K }
 {
-    ROUND[t]
+    &ROUND
 }
 
 pub fn start() -> [u32; 8]
@@ -63,17 +63,4 @@ pub fn small_sigma1(x: u32) -> u32
     ensures { result ≡ fips.σ1 x }
 {
     x.rotate_right(17) ^ x.rotate_right(19) ^ (x >> 10)
-}
-
-// The word at place i of a block, its highest byte first.
-pub fn word(block: &[u8], i: usize) -> u32
-    requires { (length block.now ≡ 64) × (i < 16) }
-    ensures { result ≡ fips.word_at block.now i }
-{
-    u32::from_be_bytes([
-        block[4 * i],
-        block[4 * i + 1],
-        block[4 * i + 2],
-        block[4 * i + 3],
-    ])
 }

@@ -1,19 +1,15 @@
 -- What a copy into the buffer does to the writer's meaning.
 use Rattle.std.proofs.Common.{◌≡◌, ℕ, ◌+◌, ◌-◌, ◌<◌, ◌≤◌, List, [], ◌∷◌, ◌++◌, length, take, drop, sym, refl, ap, ◌∙◌, subst, append_assoc, arith, length-append}
-use Rattle.std.proofs.lemmas.List.{drop-drop, append-nil, nil_from_length, length-take, length-drop, take-append-drop}
+use Rattle.std.proofs.lemmas.List.{drop-drop, append-nil, length-take, length-drop, take-append-drop}
 use Rattle.std.proofs.lemmas.Slice.{take-put_mid, drop-put_mid}
 use borrow.Rule.Slice.PartMut.{put_mid}
 use Rattle.sink.specs.Write.{Held, steps, filled, Taken, Stopped}
 use Rattle.sink.specs.Buffer.{pushing, buffered}
-use Rattle.sink.proofs.Writing.{filled_none, parts, kept}
+use Rattle.sink.proofs.Writing.{parts, kept}
 
 pub steps_pushing : (s bs : List ℕ) → steps pushing s bs ≡ s ++ bs
 steps_pushing s [] = sym (append-nil s)
 steps_pushing s (b ∷ bs) = steps_pushing (s ++ (b ∷ [])) bs ∙ append_assoc s (b ∷ []) bs
-
-pub empty_taken : (xs : List ℕ) (a n : ℕ) (bs : List ℕ) → length bs ≡ 0 → Taken pushing (buffered xs a n) bs (buffered xs a n)
-empty_taken xs a n bs e =
-    (omega arith, sym (ap (filled pushing (buffered xs a n)) (nil_from_length bs e) ∙ filled_none pushing (buffered xs a n) (omega arith)))
 
 pub buffer_kept : (xs : List ℕ) (a n : ℕ) (bs : List ℕ) → length xs - n < length bs → Stopped pushing (buffered xs a n) bs (buffered xs a n)
 buffer_kept xs a n bs past = kept pushing (buffered xs a n) (buffered xs a n) bs (omega arith) past refl

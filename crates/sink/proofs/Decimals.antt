@@ -41,16 +41,14 @@ ends_more n ds at m d many is e =
           ∙ e.text;
     }
 
-pub ends_all : (n : ℕ) (ds : List ℕ) (at m d : ℕ) → m < 10 → d ≡ 48 + m → Ends n ds at m → (at - 1 < 20) × (drop (at - 1) (set ds (at - 1) d) ≡ decimal n)
+pub ends_all : (n : ℕ) (ds : List ℕ) (at m d : ℕ) → m < 10 → d ≡ 48 + m → Ends n ds at m → drop (at - 1) (set ds (at - 1) d) ≡ decimal n
 ends_all n ds at m d few is e =
     let one : decimal m ≡ (48 + m) ∷ [] = decimal_digit m few in
-    let some : 0 < at = omega (arith, e.fits, ap length one) in (
-      omega (arith, e.room),
-      placed ds at d some (omega (arith, e.room, e.wide))
-          ∙ ap (λ (x : ℕ). x ∷ drop at ds) is
-          ∙ ap (λ (v : List ℕ). v ++ drop at ds) (sym one)
-          ∙ e.text,
-    )
+    let some : 0 < at = omega (arith, e.fits, ap length one) in
+    placed ds at d some (omega (arith, e.room, e.wide))
+    ∙ ap (λ (x : ℕ). x ∷ drop at ds) is
+    ∙ ap (λ (v : List ℕ). v ++ drop at ds) (sym one)
+    ∙ e.text
 
 pub ends_some : (n : ℕ) (ds : List ℕ) (at m : ℕ) → Ends n ds at m → 0 < at
 ends_some n ds at m e = omega (arith, e.fits, decimal_nonempty m e.small)

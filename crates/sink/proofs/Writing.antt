@@ -116,6 +116,10 @@ module _ {T E : Type 0} {f : Step} where
   pub unpadded : {h k : Held} {a : List ℕ} {r : Result T E} → Writes f h (a ++ []) r k → Writes f h a r k
   unpadded {h} {k} {a} p = as_text (append-nil a) p
 
+  -- a string that did not fit, as `?` hands the refusal on
+  pub refused : {h k : Held} {a : List ℕ} {r : Result T E} → is_err r ≡ true → Stopped f h a k → Writes f h a r k
+  refused {h} {k} {a} {r} was s = unpadded (stop_at f h k a [] r s was)
+
   -- nothing more to write
   pub done : {h : Held} (x : T) → h.meaning.total < 2 ^ 64 → Writes {T = T} {E = E} f h [] (Ok x) h
   done {h} x small = record { told = (omega arith, sym (filled_none f h small)) }

@@ -1,13 +1,15 @@
 // A writer over the caller's slice.
-ghost use Rattle.std.specs.Prelude.{◌≡◌, length, take};
+ghost use Rattle.std.specs.Prelude.{◌≡◌, ◌≤◌, length, take};
 ghost use Rattle.sink.specs.Buffer.{pushing, buffered, buffered_wraps};
 
 use crate::{Full, Sink};
 
+// A lent buffer, of which the first `at` bytes are written: a slice with a place beside it, since the library crates use no heap.
 #[derive(Drop)]
 pub struct BufferWriter<'a> {
     buf: &'a mut [u8],
     at: usize,
+    ghost within: { at ≤ length buf.now },
 }
 
 impl<'a> Sink for BufferWriter<'a> {
@@ -18,16 +20,11 @@ impl<'a> Sink for BufferWriter<'a> {
     ghost wraps = { λ s. buffered_wraps s.buf.now s.buf.ghost_name s.at };
 
     fn write(&mut self, bytes: &[u8]) -> Result<(), Full> {
-        let at = self.at;
-        let n = bytes.len();
-        if n == 0 {
-            return Ok(());
-        }
-        if n > self.buf.len().saturating_sub(at) {
+        if bytes.len() > self.buf.len() - self.at {
             return Err(Full);
         }
-        let end = at + n;
-        self.buf[at..end].copy_from_slice(bytes);
+        let end = self.at + bytes.len();
+        self.buf[self.at..end].copy_from_slice(bytes);
         self.at = end;
         Ok(())
     }
@@ -44,6 +41,6 @@ impl<'a> BufferWriter<'a> {
     pub fn count(&self) -> usize
         ensures { result ≡ length (take self.now.at self.now.buf.now) }
     {
-        self.at.min(self.buf.len())
+        self.at
     }
 }

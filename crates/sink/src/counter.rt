@@ -17,13 +17,9 @@ impl Sink for Counter {
     ghost wraps = { λ s. numbered_wraps (2 ^ 64 - 1 - s.count) s.count };
 
     fn write(&mut self, bytes: &[u8]) -> Result<(), Full> {
-        match self.count.checked_add(bytes.len() as u64) {
-            Some(count) => {
-                self.count = count;
-                Ok(())
-            }
-            None => Err(Full),
-        }
+        let count = self.count.checked_add(bytes.len() as u64).ok_or(Full)?;
+        self.count = count;
+        Ok(())
     }
 }
 

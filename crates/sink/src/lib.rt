@@ -10,12 +10,14 @@ mod counter;
 mod digest;
 mod full;
 mod numerals;
+mod to_sink;
 
 pub use buffer::BufferWriter;
 pub use counter::Counter;
 pub use digest::{digest_of, writing_joins};
 pub use full::Full;
 pub use numerals::{write_decimal, write_hex};
+pub use to_sink::ToSink;
 
 // A sink is known by its state, how many bytes it still takes (remaining), and how many it ever took (total, modulo 2^64).
 pub trait Sink {

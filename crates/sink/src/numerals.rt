@@ -31,21 +31,37 @@ pub fn write_hex<S: Sink>(sink: &mut S, bytes: &[u8]) -> Result<(), Full>
     Ok(())
 }
 
-// The digits of base 10 at the end of an array, and where they begin.
-fn digits_of(n: u64) -> ([u8; 20], usize)
-    ensures { (result.1 < 20) × (drop result.1 result.0 ≡ decimal n) }
-{
-    let mut digits = [0u8; 20];
-    let mut at = 20;
-    let mut rest = n;
-    while rest >= 10 {
-        at -= 1;
-        digits[at] = b'0' + (rest % 10) as u8;
-        rest /= 10;
+// The digits of a number in base 10, at the end of an array: the library crates use no heap.
+#[derive(Drop)]
+struct Digits {
+    digits: [u8; 20],
+    first: usize,
+    ghost within: { first < 20 },
+}
+
+impl Digits {
+    fn of(n: u64) -> Digits
+        ensures { drop result.first result.digits ≡ decimal n }
+    {
+        let mut digits = [0u8; 20];
+        let mut first = 20;
+        let mut rest = n;
+        // The last digit comes first, and the library's own digits are a text on the heap.
+        while rest >= 10 {
+            first -= 1;
+            digits[first] = b'0' + (rest % 10) as u8;
+            rest /= 10;
+        }
+        first -= 1;
+        digits[first] = b'0' + rest as u8;
+        Digits { digits, first }
     }
-    at -= 1;
-    digits[at] = b'0' + rest as u8;
-    (digits, at)
+
+    fn as_slice(&self) -> &[u8]
+        ensures { result.now ≡ drop self.now.first self.now.digits }
+    {
+        &self.digits[self.first..]
+    }
 }
 
 // A number in base 10, without leading zeros, as one string.
@@ -53,6 +69,5 @@ pub fn write_decimal<S: Sink>(sink: &mut S, n: u64) -> Result<(), Full>
     ensures writes { Writes S.step (S.held sink.old) (decimal n) result (S.held sink.new) }
     ensures same { OnErr result (sink.new ≡ sink.old) }
 {
-    let (digits, at) = digits_of(n);
-    sink.write(&digits[at..])
+    sink.write(Digits::of(n).as_slice())
 }

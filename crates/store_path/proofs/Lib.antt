@@ -1,3 +1,4 @@
 pub mod Folds
+pub mod Made
 pub mod Paths
 pub mod Deciding

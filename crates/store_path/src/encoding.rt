@@ -1,9 +1,10 @@
 // Base 32, and the fold of a digest to the 20 bytes that a store path writes.
 ghost use Rattle.std.specs.Prelude.{◌≡◌, ◌+◌, ◌<◌, slice_index};
-ghost use Rattle.store_path.specs.Base32.{bit, five, base32, fold};
+ghost use Rattle.store_path.specs.Base32.{bit, five, character, base32, fold};
 ghost use Rattle.store_path.specs.Names.{digits_32};
 
 use crate::names::DIGITS;
+use std::array;
 
 fn bit_at(bytes: &[u8; 20], b: usize) -> u8
     requires { b < 160 }
@@ -31,15 +32,19 @@ fn digit(n: u8) -> u8
     DIGITS[n as usize]
 }
 
+// The digit at place `p` from the left.
+fn character(bytes: &[u8; 20], p: usize) -> u8
+    requires { p < 32 }
+    ensures { result ≡ character bytes.now p }
+{
+    digit(five_at(bytes, 5 * (31 - p)))
+}
+
 // Each five bits as a digit, the lowest at the right end.
 pub fn base32(bytes: &[u8; 20]) -> [u8; 32]
     ensures { result ≡ base32 bytes.now }
 {
-    let mut out = [0u8; 32];
-    for p in 0..32 {
-        out[p] = digit(five_at(bytes, 5 * (31 - p)));
-    }
-    out
+    array::from_fn(|p| character(bytes, p))
 }
 
 // Byte i of the answer is the xor of all bytes whose index is i modulo 20.

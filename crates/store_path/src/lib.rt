@@ -5,4 +5,4 @@ mod encoding;
 mod names;
 
 pub use encoding::{base32, fold};
-pub use names::{Parts, ends_with_drv, is_name, is_store_path, take_apart};
+pub use names::{Parts, all_in, ends_with_drv, is_name, is_store_path, take_apart};

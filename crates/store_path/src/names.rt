@@ -18,65 +18,34 @@ pub struct Parts<'a> {
 pub fn all_in(s: &[u8], alphabet: &[u8]) -> bool
     ensures { Decides result (AllByRecursion (Has alphabet.now) s.now) }
 {
-    for c in s {
-        if !alphabet.contains(c) {
-            return false;
-        }
-    }
-    true
+    s.iter().all(|c| alphabet.contains(c))
 }
 
 pub fn is_name(s: &[u8]) -> bool
     ensures { Decides result (Name s.now) }
 {
-    if s.is_empty() || s.len() > 211 || s[0] == b'.' {
-        return false;
-    }
-    all_in(s, NAME_BYTES)
+    !s.is_empty() && s.len() <= 211 && s[0] != b'.' && all_in(s, NAME_BYTES)
 }
 
 // What follows `/nix/store/` in a store path, as its digits and its name.
 fn base_parts<'a>(s: &'a [u8]) -> Option<Parts<'a>>
     ensures { MatchOption result (Based s.now → ⊥) (λ p. Joined s.now p.digits.now p.name.now) }
 {
-    if s.len() < 33 {
-        return None;
+    let (digits, tail) = s.split_at_checked(32)?;
+    let name = tail.strip_prefix(b"-")?;
+    if all_in(digits, DIGITS) && is_name(name) {
+        Some(Parts { digits, name })
+    } else {
+        None
     }
-    let (digits, tail) = s.split_at(32);
-    if tail[0] != b'-' {
-        return None;
-    }
-    if !all_in(digits, DIGITS) {
-        return None;
-    }
-    let name = &tail[1..];
-    if !is_name(name) {
-        return None;
-    }
-    Some(Parts { digits, name })
 }
 
 // The digits and the name of a store path; None of anything else.
 pub fn take_apart<'a>(path: &'a [u8]) -> Option<Parts<'a>>
     ensures { MatchOption result (StorePath path.now → ⊥) (λ p. Apart path.now p.digits.now p.name.now) }
 {
-    match path {
-        [
-            b'/',
-            b'n',
-            b'i',
-            b'x',
-            b'/',
-            b's',
-            b't',
-            b'o',
-            b'r',
-            b'e',
-            b'/',
-            rest @ ..,
-        ] => base_parts(rest),
-        _ => None,
-    }
+    let rest = path.strip_prefix(b"/nix/store/")?;
+    base_parts(rest)
 }
 
 pub fn is_store_path(s: &[u8]) -> bool

@@ -1,9 +1,11 @@
-// Bytes in base 16, as the programs that run many cases read them.
+// Bytes in base 16, as the programs that run many cases read and print them.
 #![tactic(auto)]
 
-ghost use Rattle.std.specs.Prelude.{◌≡◌, ◌/◌, ◌<◌, length, IfOk, vec_len};
+ghost use Rattle.std.specs.Prelude.{◌≡◌, ◌/◌, ◌<◌, length, IfOk, Some, vec_len};
+ghost use Rattle.sink.specs.Numerals.{hex};
 
 use std::alloc::{AllocError, Global};
+use std::fmt;
 
 fn half(b: u8) -> u8
     ensures { result < 16 }
@@ -19,9 +21,25 @@ fn half(b: u8) -> u8
 pub fn decode(heap: Global, digits: &[u8]) -> Result<Vec<u8>, AllocError>
     ensures { IfOk result (λ v. vec_len v ≡ length digits.now / 2) }
 {
-    let mut bytes = Vec::new(heap);
-    for i in 0..digits.len() / 2 {
-        bytes.push(half(digits[2 * i]) * 16 + half(digits[2 * i + 1]))?;
+    digits
+        .as_chunks::<2>()
+        .0
+        .iter()
+        .map(|pair| 16 * half(pair[0]) + half(pair[1]))
+        .collect(heap)
+}
+
+// Bytes as two digits each, in lower case.
+#[derive(Clone, Copy)]
+pub struct Hex<'a>(pub &'a [u8]);
+
+impl<'a> fmt::Display for Hex<'a> {
+    ghost output = { λ x. Some (hex x.0.now) };
+
+    fn fmt<W: fmt::Write>(&self, f: &mut fmt::Formatter<W>) -> fmt::Result {
+        for &b in self.0 {
+            write!(f, "{b:02x}")?;
+        }
+        Ok(())
     }
-    Ok(bytes)
 }

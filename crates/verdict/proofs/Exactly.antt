@@ -1,5 +1,5 @@
 -- A file is accepted exactly where its text, what it rests on and its paths are right.
-use Rattle.std.proofs.Common.{◌≡◌, ℕ, [], None, sym, refl, ap, ◌∙◌, subst, arith}
+use Rattle.std.proofs.Common.{◌≡◌, ℕ, [], None, sym, refl, ap, ◌∙◌, subst, arith, Ok, Err}
 use Rattle.aterm.specs.Files.{output, variable, derivation}
 use Rattle.aterm.specs.Grammar.{Tree, meaning}
 use Rattle.canonical.specs.Canonical.{CanonicalText}
@@ -9,6 +9,7 @@ use Rattle.canonical.specs.Meanings.{an_output, a_variable, a_derivation, Meanin
 use Rattle.canonical.specs.Order.{Member}
 use Rattle.derivation.specs.Asked.{First}
 use Rattle.derivation.specs.Questions.{output_rows, input_rows}
+use Rattle.derivation.specs.declared.field.Field.TheVariants as fields
 use Rattle.file_meaning.proofs.Again as again
 use Rattle.hash_modulo.specs.Hashes.{Digest}
 use Rattle.hash_modulo.specs.Paths.{OutputPath}
@@ -20,12 +21,11 @@ use Rattle.hash_modulo.proofs.Paths.{output_paths}
 use Rattle.verdict.specs.Judged.{output_of, there, owning, right_output, in_environment, PathsJudged, wrong_path, wrong_output, wrong_variable, not_canonical, right, Judged, unread, absent, unowned, unhashed, hashed}
 use Rattle.verdict.specs.Laws.{OnlyCanonical, Sound, AcceptedExactly}
 use Rattle.verdict.specs.declared.fault.Fault.{Fault}
-use Rattle.verdict.specs.declared.fault.Verdict.{Verdict}
-use Rattle.verdict.specs.declared.fault.Verdict.TheVariants.{Accepted, Refused}
+use Rattle.verdict.specs.Verdicts.{Verdict}
 use Rattle.verdict.proofs.Meant.{output_there, output_back, variable_there, variable_back, ready, rows_there, rows_owned}
 use Rattle.verdict.proofs.Rows.{each, all_of}
 
-refused_not : (v : Verdict) (f : Fault) → v ≡ Accepted → v ≡ Refused f → ⊥
+refused_not : (v : Verdict) (f : Fault) → v ≡ Ok tt → v ≡ Err f → ⊥
 refused_not v f a r = let z : ◌≡◌ {A = ℕ} 0 1 = cc in omega arith
 
 -- ---- outputs and the environment, by the tree and by what it means
@@ -41,10 +41,10 @@ module _ (d : Digest) (p : Bytes) (g : Bytes → Bytes) (x : Tree derivation) (m
   outputs_meant a o i =
       let z = output_back x m means o i in
       subst (λ (o : Value an_output). OutputPath d p g m o o.1.0) z.2
-      (each output 1 (λ t. OutputPath d p g m (output_of t) (meaning t.1.0)) _ [] x.0 a z.0 z.1)
+      (each output fields.Outputs (λ t. OutputPath d p g m (output_of t) (meaning t.1.0)) _ [] x.0 a z.0 z.1)
 
   outputs_told : Outputs → First (right_output d p g m) (output_rows x) None
-  outputs_told f = all_of output 1 (λ t. OutputPath d p g m (output_of t) (meaning t.1.0)) _ [] x.0 (λ t i. f (output_of t) (output_there x m means t i))
+  outputs_told f = all_of output fields.Outputs (λ t. OutputPath d p g m (output_of t) (meaning t.1.0)) _ [] x.0 (λ t i. f (output_of t) (output_there x m means t i))
 
   -- the environment has an output's name with the right path
   abbrev HasVariable : Tree output → Type 0
@@ -53,7 +53,7 @@ module _ (d : Digest) (p : Bytes) (g : Bytes → Bytes) (x : Tree derivation) (m
   variables_meant : Outputs → First (in_environment d p g m x) (output_rows x) None → Variables
   variables_meant f a o i =
       let z = output_back x m means o i in
-      let w = each output 1 HasVariable _ [] x.0 a z.0 z.1 in
+      let w = each output fields.Outputs HasVariable _ [] x.0 a z.0 z.1 in
       let t = output_of z.0 in
       let q : meaning w.0.1 ≡ t.1.0 =
       output_paths.one d p g g m t (meaning w.0.1) t.1.0 (λ r j. refl) w.3 (f t (output_there x m means z.0 z.1)) in
@@ -62,7 +62,7 @@ module _ (d : Digest) (p : Bytes) (g : Bytes → Bytes) (x : Tree derivation) (m
       subst (λ (u : Value a_variable). Member u m.1.1.1.1.1.1) (e ∙ f) (variable_there x m means w.0 w.1)
 
   variables_told : Outputs → Variables → First (in_environment d p g m x) (output_rows x) None
-  variables_told f h = all_of output 1 HasVariable _ [] x.0 has
+  variables_told f h = all_of output fields.Outputs HasVariable _ [] x.0 has
     where
       has : (t : Tree output) → Member t x.0 → HasVariable t
       has t i =
@@ -80,7 +80,7 @@ module _ (set : Files) (fin : Finite set) (d : Digest) (p : Bytes) where
         let t = again.one_text p f.text m f.reads in
         record { meaning = m; means = f; canonical = subst (λ (b : Bytes). CanonicalText b m) (sym e) t.has; only = λ b c. t.only b c ∙ sym e }
 
-  sound_paths : (v : Verdict) → v ≡ Accepted → (m : Meaning) (f : Means set p m)
+  sound_paths : (v : Verdict) → v ≡ Ok tt → (m : Meaning) (f : Means set p m)
       → First (there set) (input_rows f.reads.tree) None → First (owning set) (input_rows f.reads.tree) None
       → (g : Bytes → Bytes) → InputsHashed set d m g → PathsJudged d p f.text f.reads.tree g m v → Sound set d p
   sound_paths v a m f present owned g h (wrong_path n e) = absurd (refused_not v _ a e)
@@ -98,7 +98,7 @@ module _ (set : Files) (fin : Finite set) (d : Digest) (p : Bytes) where
         paths = record { meaning = m; means = f; hashes = g; inputs = h; own = own; outputs = outputs; variables = variables_meant d p g x m means outputs env };
       }
 
-  sound : (v : Verdict) → v ≡ Accepted → Judged set d p v → Sound set d p
+  sound : (v : Verdict) → v ≡ Ok tt → Judged set d p v → Sound set d p
   sound v a (unread text s f n e) = absurd (refused_not v _ a e)
   sound v a (absent m f w n e) = absurd (refused_not v _ a e)
   sound v a (unowned m f t w n e) = absurd (refused_not v _ a e)
@@ -107,7 +107,7 @@ module _ (set : Files) (fin : Finite set) (d : Digest) (p : Bytes) where
 
   -- ---- and back
 
-  accepts : Sound set d p → Judged set d p Accepted
+  accepts : Sound set d p → Judged set d p (Ok tt)
   accepts s =
       let m = s.paths.meaning in
       let f = s.paths.means in
@@ -124,4 +124,4 @@ module _ (set : Files) (fin : Finite set) (d : Digest) (p : Bytes) where
       (right s.paths.own (outputs_told d p g x m means s.paths.outputs) (variables_told d p g x m means s.paths.outputs s.paths.variables) e refl)
 
 pub accepted_exactly : AcceptedExactly
-accepted_exactly set fin d p = (sound set fin d p Accepted refl, accepts set fin d p)
+accepted_exactly set fin d p = (sound set fin d p (Ok tt) refl, accepts set fin d p)

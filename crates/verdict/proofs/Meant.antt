@@ -7,6 +7,7 @@ use Rattle.canonical.specs.Meanings.{an_output, an_input, a_variable, a_derivati
 use Rattle.canonical.specs.Order.{Member, Along, Same}
 use Rattle.derivation.specs.Asked.{First}
 use Rattle.derivation.specs.Questions.{input_rows}
+use Rattle.derivation.specs.declared.field.Field.TheVariants.{Inputs}
 use Rattle.hash_modulo.specs.Sets as sets
 use Rattle.hash_modulo.specs.Sets.{Bytes, Files, Present, Row, Names, Owned, Ready}
 use Rattle.verdict.specs.Judged.{row_of, output_of, there, owning}
@@ -85,18 +86,18 @@ module _ (x : Tree derivation) (m : Meaning) (means : Means a_derivation x m) wh
   -- questions 18 and 19 to the rows of the tree, and to the inputs
   pub ready : (set : Files) → First (there set) (input_rows x) None → First (owning set) (input_rows x) None → Ready set m
   ready set present owned = record {
-    present = λ r i. (let w = input_back r i in subst (Present set) (sym w.2) (each input 2 (λ t. Present set (meaning t.0)) _ [] x.1.0 present w.0 w.1));
-    owned = λ r i. (let w = input_back r i in owned_by w.0 r w.2 w.3 (each input 2 (λ t. Owned set (row_of t)) _ [] x.1.0 owned w.0 w.1));
+    present = λ r i. (let w = input_back r i in subst (Present set) (sym w.2) (each input Inputs (λ t. Present set (meaning t.0)) _ [] x.1.0 present w.0 w.1));
+    owned = λ r i. (let w = input_back r i in owned_by w.0 r w.2 w.3 (each input Inputs (λ t. Owned set (row_of t)) _ [] x.1.0 owned w.0 w.1));
   }
     where
       owned_by : (t : Tree input) (r : Row) → r.0 ≡ meaning t.0 → Same (map meaning t.1) r.1 → Owned set (row_of t) → Owned set r
       owned_by t r e s o k f n j = o k (subst (λ (q : Bytes). sets.Means set q k) e f) n (s.back n j)
 
   pub rows_there : (set : Files) → Ready set m → First (there set) (input_rows x) None
-  rows_there set y = all_of input 2 (λ t. Present set (meaning t.0)) _ [] x.1.0 (λ t i. (let w = input_there t i in subst (Present set) w.2 (y.present w.0 w.1)))
+  rows_there set y = all_of input Inputs (λ t. Present set (meaning t.0)) _ [] x.1.0 (λ t i. (let w = input_there t i in subst (Present set) w.2 (y.present w.0 w.1)))
 
   pub rows_owned : (set : Files) → Ready set m → First (owning set) (input_rows x) None
-  rows_owned set y = all_of input 2 (λ t. Owned set (row_of t)) _ [] x.1.0 has
+  rows_owned set y = all_of input Inputs (λ t. Owned set (row_of t)) _ [] x.1.0 has
     where
       has : (t : Tree input) → Member t x.1.0 → Owned set (row_of t)
       has t i k f n j = let w = input_there t i in y.owned w.0 w.1 k (subst (λ (q : Bytes). sets.Means set q k) (sym w.2) f) n (w.3.there n j)

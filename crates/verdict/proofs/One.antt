@@ -1,5 +1,5 @@
 -- A file has one verdict only, but for the row that 20 tells.
-use Rattle.std.proofs.Common.{◌≡◌, ℕ, ◌⊎◌, [], Some, None, sym, ap, ◌∙◌, subst, inl, inr}
+use Rattle.std.proofs.Common.{◌≡◌, ℕ, ◌⊎◌, [], Some, None, sym, ap, ◌∙◌, subst, inl, inr, Ok, Err}
 use Rattle.aterm.specs.Files.{output, input, variable, derivation}
 use Rattle.aterm.specs.Grammar.{Tree, meaning, signs}
 use Rattle.canonical.specs.Differences.{DifferAt}
@@ -11,6 +11,7 @@ use Rattle.derivation.specs.Asked.{First, FirstNo}
 use Rattle.derivation.specs.Judgement.{IsFileFault}
 use Rattle.derivation.specs.Questions.{output_rows, input_rows}
 use Rattle.derivation.specs.declared.fault.FileFault.{FileFault}
+use Rattle.derivation.specs.declared.field.Field.TheVariants.{Inputs, Environment}
 use Rattle.derivation.specs.declared.spot.Spot.{Spot}
 use Rattle.derivation.proofs.Judging.{first_once, not_both}
 use Rattle.file_meaning.specs.Reads.{Reads}
@@ -25,8 +26,7 @@ use Rattle.hash_modulo.proofs.Hashes.{one_text, one_meaning, is_hashable}
 use Rattle.verdict.specs.Judged.{Behind, there, owning, UnhashedRow, right_output, in_environment, VariableAt, at, nowhere, PathsJudged, wrong_path, wrong_output, wrong_variable, not_canonical, right, Judged, unread, absent, unowned, unhashed, hashed}
 use Rattle.verdict.specs.Laws.{BothUnhashed, OneVerdict}
 use Rattle.verdict.specs.declared.fault.Fault.TheVariants.{Reading, Absent, Unowned, Unhashed, WrongPath, WrongOutput, WrongVariable, NotCanonical}
-use Rattle.verdict.specs.declared.fault.Verdict.{Verdict}
-use Rattle.verdict.specs.declared.fault.Verdict.TheVariants.{Accepted, Refused}
+use Rattle.verdict.specs.Verdicts.{Verdict}
 use Rattle.verdict.proofs.Meant.{input_there}
 use Rattle.verdict.proofs.Paths.{agreed, output_moved, environment_moved}
 use Rattle.verdict.proofs.Rows.{one_row, same_yes, same_no, row_there, one_spot}
@@ -48,27 +48,27 @@ one_answer R P bad next b g v w (inr x) (inr y) = g v w x.1 y.1
 
 module _ (x : Tree derivation) (apart : Different (λ v. meaning v.0) x.1.1.1.1.1.1) (n : Bytes) where
   one_variable : (v w : Spot) → VariableAt x n v → VariableAt x n w → v ≡ w
-  one_variable v w (at e i a) (at f j b) = one_spot variable 7 (λ u. u.0) _ [] x.1.1.1.1.1.1 apart v w e f i j (a ∙ sym b)
-  one_variable v w (at e i a) (nowhere none b) = absurd (none e.1 (row_there variable 7 _ [] x.1.1.1.1.1.1 v e i) a)
-  one_variable v w (nowhere none a) (at f j b) = absurd (none f.1 (row_there variable 7 _ [] x.1.1.1.1.1.1 w f j) b)
+  one_variable v w (at e i a) (at f j b) = one_spot variable Environment (λ u. u.0) _ [] x.1.1.1.1.1.1 apart v w e f i j (a ∙ sym b)
+  one_variable v w (at e i a) (nowhere none b) = absurd (none e.1 (row_there variable Environment _ [] x.1.1.1.1.1.1 v e i) a)
+  one_variable v w (nowhere none a) (at f j b) = absurd (none f.1 (row_there variable Environment _ [] x.1.1.1.1.1.1 w f j) b)
   one_variable v w (nowhere none a) (nowhere _ b) = a ∙ sym b
 
 module _ (d : Digest) (p text : Bytes) (x : Tree derivation) (g : Bytes → Bytes) (m : Meaning) where
   abbrev BadPath : Verdict → Type 0
-  BadPath v = v ≡ Refused WrongPath
+  BadPath v = v ≡ Err WrongPath
 
   abbrev BadOutput : Verdict → Type 0
-  BadOutput v = (w : Spot) × FirstNo (right_output d p g m) (output_rows x) w × (v ≡ Refused (WrongOutput w))
+  BadOutput v = (w : Spot) × FirstNo (right_output d p g m) (output_rows x) w × (v ≡ Err (WrongOutput w))
 
   abbrev BadVariable : Verdict → Type 0
   BadVariable v =
-      (o : Spot) × (first : FirstNo (in_environment d p g m x) (output_rows x) o) × (w : Spot) × VariableAt x (meaning first.row.1.0) w × (v ≡ Refused (WrongVariable w))
+      (o : Spot) × (first : FirstNo (in_environment d p g m x) (output_rows x) o) × (w : Spot) × VariableAt x (meaning first.row.1.0) w × (v ≡ Err (WrongVariable w))
 
   abbrev BadText : Verdict → Type 0
-  BadText v = (place : ℕ) × DifferAt text (canonical m) place × (v ≡ Refused (NotCanonical place))
+  BadText v = (place : ℕ) × DifferAt text (canonical m) place × (v ≡ Err (NotCanonical place))
 
   abbrev Good : Verdict → Type 0
-  Good v = v ≡ Accepted
+  Good v = v ≡ Ok tt
 
   abbrev From24 : Verdict → Type 0
   From24 = Ask (text ≡ canonical m) BadText Good
@@ -140,13 +140,13 @@ module _ (d : Digest) (p text : Bytes) (x : Tree derivation) (m : Meaning) (f g 
 
 module _ (set : Files) (d : Digest) (p text : Bytes) (x : Tree derivation) (m : Meaning) where
   abbrev BadAbsent : Verdict → Type 0
-  BadAbsent v = (w : Spot) × FirstNo (there set) (input_rows x) w × (v ≡ Refused (Absent w))
+  BadAbsent v = (w : Spot) × FirstNo (there set) (input_rows x) w × (v ≡ Err (Absent w))
 
   abbrev BadOwning : Verdict → Type 0
-  BadOwning v = (w : Spot) × FirstNo (owning set) (input_rows x) w × (v ≡ Refused (Unowned w))
+  BadOwning v = (w : Spot) × FirstNo (owning set) (input_rows x) w × (v ≡ Err (Unowned w))
 
   abbrev BadHash : Verdict → Type 0
-  BadHash v = (w : Spot) × UnhashedRow set x w × (v ≡ Refused (Unhashed w))
+  BadHash v = (w : Spot) × UnhashedRow set x w × (v ≡ Err (Unhashed w))
 
   abbrev JudgedPaths : Verdict → Type 0
   JudgedPaths v = (g : Bytes → Bytes) × InputsHashed set d m g × PathsJudged d p text x g m v
@@ -162,7 +162,7 @@ module _ (set : Files) (d : Digest) (p text : Bytes) (x : Tree derivation) (m : 
 
   unhashed_not : kinds.Means a_derivation x m → (w : Spot) → UnhashedRow set x w → ((r : Row) → Names m r → Hashable set r.0) → ⊥
   unhashed_not means w u all =
-      let z = input_there x m means u.row.1 (row_there input 2 _ [] x.1.0 w u.row u.stands) in
+      let z = input_there x m means u.row.1 (row_there input Inputs _ [] x.1.0 w u.row u.stands) in
       u.without (subst (Hashable set) z.2 (all z.0 z.1))
 
   abbrev Alike : Verdict → Verdict → Type 0
@@ -191,7 +191,7 @@ module _ (set : Files) (d : Digest) (p text : Bytes) (x : Tree derivation) (m : 
 
 module _ (set : Files) (d : Digest) (p : Bytes) where
   abbrev BadReading : Verdict → Type 0
-  BadReading v = (text : Bytes) × (set p ≡ Some text) × (f : FileFault) × IsFileFault p text f × (v ≡ Refused (Reading f))
+  BadReading v = (text : Bytes) × (set p ≡ Some text) × (f : FileFault) × IsFileFault p text f × (v ≡ Err (Reading f))
 
   abbrev Read : Verdict → Type 0
   Read v = (m : Meaning) × (f : Means set p m) × From18 set d p f.text f.reads.tree m v

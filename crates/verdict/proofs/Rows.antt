@@ -7,6 +7,7 @@ use Rattle.aterm.specs.Reads.{past}
 use Rattle.canonical.specs.Order.{Member, Different}
 use Rattle.canonical.proofs.Members.{member_all}
 use Rattle.derivation.specs.Asked.{FirstNo, First, rows_at}
+use Rattle.derivation.specs.declared.field.Field.{Field}
 use Rattle.derivation.specs.declared.spot.Spot.{Spot}
 use Rattle.store_path.proofs.Deciding.{same_text}
 
@@ -50,21 +51,21 @@ no_stands {E} Yes rows w f = subst (Member {X = Spot × E} (w, f.row)) (sym f.wh
 
 -- ---- rows of a list
 
-module _ (s : Shape) (number : ℕ) where
-  pub row_there : (at : ℕ) (ys xs : List (Tree s)) (w : Spot) (e : List (Tree s) × Tree s) → Member (w, e) (rows_at s number at ys xs) → Member e.1 xs
+module _ (s : Shape) (field : Field) where
+  pub row_there : (at : ℕ) (ys xs : List (Tree s)) (w : Spot) (e : List (Tree s) × Tree s) → Member (w, e) (rows_at s field at ys xs) → Member e.1 xs
   row_there at ys [] w e i = absurd i
   row_there at ys (x ∷ xs) w e (inl q) = inl (ap (λ (z : Spot × (List (Tree s) × Tree s)). z.1.1) q)
   row_there at ys (x ∷ xs) w e (inr i) = inr (row_there (past s at x) (ys ++ x ∷ []) xs w e i)
 
   -- what is asked of the row alone
-  pub each : (P : Tree s → Type 0) (at : ℕ) (ys xs : List (Tree s)) → First (λ (e : List (Tree s) × Tree s). P e.1) (rows_at s number at ys xs) None
+  pub each : (P : Tree s → Type 0) (at : ℕ) (ys xs : List (Tree s)) → First (λ (e : List (Tree s) × Tree s). P e.1) (rows_at s field at ys xs) None
       → (x : Tree s) → Member x xs → P x
   each P at ys [] a x i = absurd i
   each P at ys (y ∷ xs) a x (inl e) = subst P (sym e) a.0
   each P at ys (y ∷ xs) a x (inr i) = each P (past s at y) (ys ++ y ∷ []) xs a.1 x i
 
   pub all_of : (P : Tree s → Type 0) (at : ℕ) (ys xs : List (Tree s)) → ((x : Tree s) → Member x xs → P x)
-      → First (λ (e : List (Tree s) × Tree s). P e.1) (rows_at s number at ys xs) None
+      → First (λ (e : List (Tree s) × Tree s). P e.1) (rows_at s field at ys xs) None
   all_of P at ys [] f = tt
   all_of P at ys (x ∷ xs) f = (f x (inl refl), all_of P (past s at x) (ys ++ x ∷ []) xs (λ y i. f y (inr i)))
 
@@ -73,7 +74,7 @@ module _ (s : Shape) (number : ℕ) where
     pub record Keyed (at : ℕ) (ys xs : List (Tree s)) : Type 0 where
       pub spot : Spot
       pub row : List (Tree s) × Tree s
-      pub stands : Member (spot, row) (rows_at s number at ys xs)
+      pub stands : Member (spot, row) (rows_at s field at ys xs)
       pub has : meaning (key row.1) ≡ n
 
     pub keyed? : (at : ℕ) (ys xs : List (Tree s)) → Keyed at ys xs ⊎ ((x : Tree s) → Member x xs → meaning (key x) ≡ n → ⊥)
@@ -89,12 +90,12 @@ module _ (s : Shape) (number : ℕ) where
   -- where keys differ, one row has a key
   module _ (key : Tree s → Tree string) where
     behind : (at : ℕ) (ys : List (Tree s)) (x : Tree s) (xs : List (Tree s)) → AllByRecursion (λ y. meaning (key x) ≡ meaning (key y) → ⊥) xs
-        → (t : Tree s) → t ≡ x → (w : Spot) (e : List (Tree s) × Tree s) → Member (w, e) (rows_at s number at ys xs) → meaning (key t) ≡ meaning (key e.1) → ⊥
+        → (t : Tree s) → t ≡ x → (w : Spot) (e : List (Tree s) × Tree s) → Member (w, e) (rows_at s field at ys xs) → meaning (key t) ≡ meaning (key e.1) → ⊥
     behind at ys x xs a t q w e i k =
         member_all (λ y. meaning (key x) ≡ meaning (key y) → ⊥) xs e.1 a (row_there at ys xs w e i) (ap (λ (z : Tree s). meaning (key z)) (sym q) ∙ k)
 
     pub one_spot : (at : ℕ) (ys xs : List (Tree s)) → Different (λ x. meaning (key x)) xs → (v w : Spot) (e f : List (Tree s) × Tree s)
-        → Member (v, e) (rows_at s number at ys xs) → Member (w, f) (rows_at s number at ys xs) → meaning (key e.1) ≡ meaning (key f.1) → v ≡ w
+        → Member (v, e) (rows_at s field at ys xs) → Member (w, f) (rows_at s field at ys xs) → meaning (key e.1) ≡ meaning (key f.1) → v ≡ w
     one_spot at ys [] d v w e f i j k = absurd i
     one_spot at ys (x ∷ xs) d v w e f (inl p) (inl q) k = ap (λ (z : Spot × (List (Tree s) × Tree s)). z.0) (p ∙ sym q)
     one_spot at ys (x ∷ xs) d v w e f (inl p) (inr j) k = absurd (behind _ _ x xs d.0 e.1 (ap (λ (z : Spot × (List (Tree s) × Tree s)). z.1.1) p) w f j k)

@@ -1,6 +1,7 @@
 -- Two texts are the same, or differ from one place on.
 use Rattle.std.proofs.Common.{◌≡◌, ℕ, suc, ◌⊎◌, List, [], ◌∷◌, ◌++◌, length, sym, refl, ap, ◌∙◌, inl, inr, arith}
 use Rattle.std.proofs.lemmas.Bool.{cases_eq}
+use Rattle.std.proofs.lemmas.List.{append_cancel_left}
 use Rattle.canonical.specs.Differences.{Parted, DifferAt}
 
 heads : {a b : ℕ} {r s : List ℕ} → a ∷ r ≡ b ∷ s → a ≡ b
@@ -38,12 +39,8 @@ not_parted [] (y ∷ b) e n = let z : ◌≡◌ {A = ℕ} 0 1 = cc in omega arit
 not_parted (x ∷ a) [] e n = let z : ◌≡◌ {A = ℕ} 0 1 = cc in omega arith
 not_parted (x ∷ a) (y ∷ b) e n = n (heads e)
 
-same_rest : (front a b : List ℕ) → front ++ a ≡ front ++ b → a ≡ b
-same_rest [] a b e = e
-same_rest (x ∷ front) a b e = same_rest front a b (tails e)
-
 pub differ_not : (a b : List ℕ) (place : ℕ) → DifferAt a b place → a ≡ b → ⊥
-differ_not a b place w e = not_parted w.rest w.other (same_rest w.front w.rest w.other (sym w.one ∙ e ∙ w.two)) w.parted
+differ_not a b place w e = not_parted w.rest w.other (append_cancel_left w.front w.rest w.other (sym w.one ∙ e ∙ w.two)) w.parted
 
 not_apart : (r o : List ℕ) (y : ℕ) (a b : List ℕ) → r ≡ y ∷ a → o ≡ y ∷ b → Parted r o → ⊥
 not_apart [] o y a b e k m = let z : ◌≡◌ {A = ℕ} 0 1 = cc in omega arith

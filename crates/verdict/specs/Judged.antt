@@ -1,7 +1,7 @@
 -- The verdict of a file of a set, as a relation that puts the questions in their order.
 -- Source: this project's own rule (docs/CALLS.md, "Verdict"), over the hashes and right paths of E. Dolstra,
 -- The Purely Functional Software Deployment Model (2006), section 5.5.
-use Rattle.std.specs.Prelude.{◌≡◌, ℕ, List, map, Some, None, ◌≢◌}
+use Rattle.std.specs.Prelude.{◌≡◌, ℕ, List, map, Some, None, ◌≢◌, Ok, Err}
 use Rattle.aterm.specs.Files.{output, input, variable, derivation}
 use Rattle.aterm.specs.Grammar.{Tree, meaning}
 use Rattle.canonical.specs.Differences.{DifferAt}
@@ -12,14 +12,14 @@ use Rattle.derivation.specs.Asked.{FirstNo, First}
 use Rattle.derivation.specs.Judgement.{IsFileFault}
 use Rattle.derivation.specs.Questions.{output_rows, input_rows, variable_rows}
 use Rattle.derivation.specs.declared.fault.FileFault.{FileFault}
+use Rattle.derivation.specs.declared.field.Field.TheVariants.{Environment}
 use Rattle.derivation.specs.declared.spot.Spot.{Spot}
 use Rattle.hash_modulo.specs.Hashes.{Digest}
 use Rattle.hash_modulo.specs.Paths.{OwnPath, OutputPath}
 use Rattle.hash_modulo.specs.Sets.{Bytes, Files, Present, Means, Row, Owned, Hashable}
 use Rattle.hash_modulo.specs.Strings.{InputsHashed}
 use Rattle.verdict.specs.declared.fault.Fault.TheVariants.{Reading, Absent, Unowned, Unhashed, WrongPath, WrongOutput, WrongVariable, NotCanonical}
-use Rattle.verdict.specs.declared.fault.Verdict.{Verdict}
-use Rattle.verdict.specs.declared.fault.Verdict.TheVariants.{Accepted, Refused}
+use Rattle.verdict.specs.Verdicts.{Verdict}
 
 -- a row of a list, with the rows before it
 abbrev pub Behind : Type 0 → Type 0
@@ -61,31 +61,31 @@ module _ (d : Digest) (p : Bytes) (g : Bytes → Bytes) (m : Meaning) where
 pub data VariableAt (x : Tree derivation) (n : Bytes) : Spot → Type 0 where
   at : {w : Spot} (e : Behind (Tree variable)) → Member (w, e) (variable_rows x) → meaning e.1.0 ≡ n → VariableAt x n w
   nowhere : {w : Spot} → ((v : Tree variable) → Member v x.1.1.1.1.1.1 → meaning v.0 ≢ n)
-      → w ≡ record { field = 7; row = 0; place = 0 } → VariableAt x n w
+      → w ≡ record { field = Environment; row = 0; place = 0 } → VariableAt x n w
 
 -- questions 21 to 24 to the file at p with the text and the tree x that means m, where g has the hashes of its inputs
 pub data PathsJudged (d : Digest) (p text : Bytes) (x : Tree derivation) (g : Bytes → Bytes) (m : Meaning) : Verdict → Type 0 where
-  wrong_path : {v : Verdict} → (OwnPath d p m p → ⊥) → v ≡ Refused WrongPath → PathsJudged d p text x g m v
+  wrong_path : {v : Verdict} → (OwnPath d p m p → ⊥) → v ≡ Err WrongPath → PathsJudged d p text x g m v
   wrong_output : {v : Verdict} → OwnPath d p m p → (w : Spot) → FirstNo (right_output d p g m) (output_rows x) w
-      → v ≡ Refused (WrongOutput w) → PathsJudged d p text x g m v
+      → v ≡ Err (WrongOutput w) → PathsJudged d p text x g m v
   wrong_variable : {v : Verdict} → OwnPath d p m p → First (right_output d p g m) (output_rows x) None
       → (o : Spot) (first : FirstNo (in_environment d p g m x) (output_rows x) o) (w : Spot) → VariableAt x (meaning first.row.1.0) w
-      → v ≡ Refused (WrongVariable w) → PathsJudged d p text x g m v
+      → v ≡ Err (WrongVariable w) → PathsJudged d p text x g m v
   not_canonical : {v : Verdict} → OwnPath d p m p → First (right_output d p g m) (output_rows x) None → First (in_environment d p g m x) (output_rows x) None
-      → (place : ℕ) → DifferAt text (canonical m) place → v ≡ Refused (NotCanonical place) → PathsJudged d p text x g m v
+      → (place : ℕ) → DifferAt text (canonical m) place → v ≡ Err (NotCanonical place) → PathsJudged d p text x g m v
   right : {v : Verdict} → OwnPath d p m p → First (right_output d p g m) (output_rows x) None → First (in_environment d p g m x) (output_rows x) None
-      → text ≡ canonical m → v ≡ Accepted → PathsJudged d p text x g m v
+      → text ≡ canonical m → v ≡ Ok tt → PathsJudged d p text x g m v
 
 -- the verdict of the file at p
 pub data Judged (set : Files) (d : Digest) (p : Bytes) : Verdict → Type 0 where
-  unread : {v : Verdict} (text : Bytes) → set p ≡ Some text → (f : FileFault) → IsFileFault p text f → v ≡ Refused (Reading f) → Judged set d p v
+  unread : {v : Verdict} (text : Bytes) → set p ≡ Some text → (f : FileFault) → IsFileFault p text f → v ≡ Err (Reading f) → Judged set d p v
   absent : {v : Verdict} (m : Meaning) (f : Means set p m) (w : Spot) → FirstNo (there set) (input_rows f.reads.tree) w
-      → v ≡ Refused (Absent w) → Judged set d p v
+      → v ≡ Err (Absent w) → Judged set d p v
   unowned : {v : Verdict} (m : Meaning) (f : Means set p m) → First (there set) (input_rows f.reads.tree) None
-      → (w : Spot) → FirstNo (owning set) (input_rows f.reads.tree) w → v ≡ Refused (Unowned w) → Judged set d p v
+      → (w : Spot) → FirstNo (owning set) (input_rows f.reads.tree) w → v ≡ Err (Unowned w) → Judged set d p v
   unhashed : {v : Verdict} (m : Meaning) (f : Means set p m) → First (there set) (input_rows f.reads.tree) None
       → First (owning set) (input_rows f.reads.tree) None → (w : Spot) → UnhashedRow set f.reads.tree w
-      → v ≡ Refused (Unhashed w) → Judged set d p v
+      → v ≡ Err (Unhashed w) → Judged set d p v
   hashed : {v : Verdict} (m : Meaning) (f : Means set p m) → First (there set) (input_rows f.reads.tree) None
       → First (owning set) (input_rows f.reads.tree) None → (g : Bytes → Bytes) → InputsHashed set d m g
       → PathsJudged d p f.text f.reads.tree g m v → Judged set d p v

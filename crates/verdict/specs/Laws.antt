@@ -1,6 +1,6 @@
 -- What holds of verdicts.
 -- Source: this project's own rule (docs/CALLS.md, "Verdict").
-use Rattle.std.specs.Prelude.{◌≡◌, ◌⊎◌}
+use Rattle.std.specs.Prelude.{◌≡◌, ◌⊎◌, Ok, Err}
 use Rattle.canonical.specs.Canonical.{CanonicalText}
 use Rattle.canonical.specs.Kinds.{Value}
 use Rattle.canonical.specs.Meanings.{an_output, Meaning}
@@ -13,8 +13,7 @@ use Rattle.hash_modulo.specs.Sets.{Bytes, Files, Present, Finite, Means}
 use Rattle.hash_modulo.specs.Strings.{InputsHashed}
 use Rattle.verdict.specs.Judged.{Judged}
 use Rattle.verdict.specs.declared.fault.Fault.TheVariants.{Unhashed}
-use Rattle.verdict.specs.declared.fault.Verdict.{Verdict}
-use Rattle.verdict.specs.declared.fault.Verdict.TheVariants.{Accepted, Refused}
+use Rattle.verdict.specs.Verdicts.{Verdict}
 
 -- every file of a finite set has a verdict, whatever the digest
 abbrev pub EveryVerdict : Type 0
@@ -24,8 +23,8 @@ EveryVerdict = (set : Files) → Finite set → (d : Digest) (p : Bytes) → Pre
 pub record BothUnhashed (v w : Verdict) : Type 0 where
   pub one : Spot
   pub two : Spot
-  pub first : v ≡ Refused (Unhashed one)
-  pub second : w ≡ Refused (Unhashed two)
+  pub first : v ≡ Err (Unhashed one)
+  pub second : w ≡ Err (Unhashed two)
 
 -- and one only, but for the row of 20
 abbrev pub OneVerdict : Type 0
@@ -57,4 +56,4 @@ pub record Sound (set : Files) (d : Digest) (p : Bytes) : Type 0 where
 
 -- a file of a finite set is accepted exactly where the three things hold
 abbrev pub AcceptedExactly : Type 0
-AcceptedExactly = (set : Files) → Finite set → (d : Digest) (p : Bytes) → Iff (Judged set d p Accepted) (Sound set d p)
+AcceptedExactly = (set : Files) → Finite set → (d : Digest) (p : Bytes) → Iff (Judged set d p (Ok tt)) (Sound set d p)

@@ -20,9 +20,3 @@ pub enum Fault {
     // 24: the text is not canonical; it differs from the canonical text from this place on.
     NotCanonical(usize),
 }
-
-#[derive(Clone, Copy)]
-pub enum Verdict {
-    Accepted,
-    Refused(Fault),
-}

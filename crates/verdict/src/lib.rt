@@ -5,6 +5,6 @@ mod fault;
 mod laws;
 mod told;
 
-pub use fault::{Fault, Verdict};
+pub use fault::Fault;
 pub use laws::verdicts_stand;
 pub use told::tell_verdict;

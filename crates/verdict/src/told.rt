@@ -1,63 +1,60 @@
 // The numbers that a verdict is told by.
 ghost use Rattle.std.specs.Prelude.{◌≡◌};
-ghost use Rattle.verdict.specs.Verdicts.{fault_details, verdict_details, told_row};
+ghost use Rattle.verdict.specs.Verdicts.{fault_details, verdict_details, told_row, told_file};
 
-use crate::fault::{Fault, Verdict};
-use derivation::{Spot, Told, tell};
+use crate::fault::Fault;
+use derivation::{Spot, Told};
 
-// A fault at a row.
+// A fault at a row. Its number and layer stand beside the variant, since `as` takes enums without fields alone.
 fn tell_row(number: u8, layer: u8, spot: Spot) -> Told
     ensures { result ≡ told_row number layer spot }
 {
     Told {
         number,
         layer,
-        field: spot.field,
+        field: spot.field as u8,
         row: spot.row,
         place: spot.place,
     }
 }
 
-// What the fault says.
-fn tell_fault(fault: Fault) -> Told
-    ensures { result ≡ fault_details fault }
+// A fault of the whole file.
+fn tell_file(number: u8, place: usize) -> Told
+    ensures { result ≡ told_file number place }
 {
-    match fault {
-        Fault::Reading(f) => tell(f),
-        Fault::Absent(spot) => tell_row(18, 4, spot),
-        Fault::Unowned(spot) => tell_row(19, 4, spot),
-        Fault::Unhashed(spot) => tell_row(20, 4, spot),
-        Fault::WrongPath => Told {
-            number: 21,
-            layer: 5,
-            field: 0,
-            row: 0,
-            place: 0,
-        },
-        Fault::WrongOutput(spot) => tell_row(22, 5, spot),
-        Fault::WrongVariable(spot) => tell_row(23, 5, spot),
-        Fault::NotCanonical(place) => Told {
-            number: 24,
-            layer: 5,
-            field: 0,
-            row: 0,
-            place,
-        },
+    Told {
+        number,
+        layer: 5,
+        field: 0,
+        row: 0,
+        place,
     }
 }
 
-// What the verdict says; all 0 where the file is accepted.
-pub fn tell_verdict(verdict: Verdict) -> Told
+// What the fault says.
+impl From<Fault> for Told {
+    ghost from_gives = { λ f r. r ≡ fault_details f };
+
+    fn from(fault: Fault) -> Told {
+        match fault {
+            Fault::Reading(f) => f.into(),
+            Fault::Absent(spot) => tell_row(18, 4, spot),
+            Fault::Unowned(spot) => tell_row(19, 4, spot),
+            Fault::Unhashed(spot) => tell_row(20, 4, spot),
+            Fault::WrongPath => tell_file(21, 0),
+            Fault::WrongOutput(spot) => tell_row(22, 5, spot),
+            Fault::WrongVariable(spot) => tell_row(23, 5, spot),
+            Fault::NotCanonical(place) => tell_file(24, place),
+        }
+    }
+}
+
+// What the verdict says; all 0 where the file is accepted. A function, since neither `Result` nor `Told` is of this crate, where a `From` could stand.
+pub fn tell_verdict(verdict: Result<(), Fault>) -> Told
     ensures { result ≡ verdict_details verdict }
 {
     match verdict {
-        Verdict::Accepted => Told {
-            number: 0,
-            layer: 0,
-            field: 0,
-            row: 0,
-            place: 0,
-        },
-        Verdict::Refused(fault) => tell_fault(fault),
+        Ok(()) => Told::default(),
+        Err(fault) => fault.into(),
     }
 }

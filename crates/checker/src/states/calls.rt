@@ -35,10 +35,10 @@ impl States {
     pub fn get(&self, file: usize) -> State
         ensures { result ≡ row_at self.now file }
     {
-        if file == 0 || file > 256 {
+        let Some(row) = file.checked_sub(1).and_then(|before| self.rows.get(before)) else {
             return State::Pending;
-        }
-        self.rows[file - 1]
+        };
+        *row
     }
 
     // The file of this number is now in this state; the others stay.

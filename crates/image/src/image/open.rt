@@ -1,13 +1,14 @@
 // Opening an image, and its files by their numbers.
-ghost use Rattle.std.specs.Prelude.{◌≡◌, ℕ, ◌+◌, ◌*◌, ◌<◌, ◌≤◌, [], ◌∷◌, length, MatchResult};
-ghost use Rattle.image.specs.Chain.{Sized, Slotted, Walked};
+ghost use Rattle.std.specs.Prelude.{◌≡◌, ℕ, ◌+◌, ◌*◌, ◌≤◌, [], ◌∷◌, length, MatchResult};
+ghost use Rattle.image.specs.Chain.{Sized, Slotted};
 ghost use Rattle.image.specs.Files.{Opened, FileAt, bytes_of, files_of};
-ghost use Rattle.image.specs.Opening.{Refused, InsideAt, NamedAt, New, Every, FilesTold, SomeAnswer, OneAnswer};
+ghost use Rattle.image.specs.Opening.{Refused, FilesTold, SomeAnswer, OneAnswer};
 
 use super::{File, Image};
-use crate::questions::{AskInside, AskNamed, AskNew, first_no};
+use crate::chain::Chain;
+use crate::fields::le16_at;
+use crate::questions::{AskInside, AskNamed, AskNew, ask_each};
 use crate::refusal::Refusal;
-use crate::{chain, fields};
 
 // The longest image.
 const LONGEST: usize = 4194304;
@@ -22,7 +23,7 @@ fn ask_whole(bytes: &[u8]) -> Result<(), Refusal>
     if bytes.len() < 4 || bytes.len() > LONGEST {
         return Err(Refusal::Size);
     }
-    let count = fields::le16_at(bytes, 0);
+    let count = le16_at(bytes, 0);
     if count > MOST_SLOTS || 4 + 16 * count as usize > bytes.len() {
         return Err(Refusal::Slots);
     }
@@ -30,53 +31,31 @@ fn ask_whole(bytes: &[u8]) -> Result<(), Refusal>
 }
 
 // The questions on each file of the chain, each put to all files before the next.
-fn ask_files(bytes: &[u8], slots: &[u16]) -> Result<(), Refusal>
-    requires { Walked bytes.now slots.now }
-    ensures { FilesTold bytes.now (length slots.now) result }
+fn ask_files(chain: &Chain<'_>) -> Result<(), Refusal>
+    ensures { FilesTold chain.now.bytes.now chain.now.count result }
 {
-    if let Some(slot) = first_no(&AskInside, bytes, slots) {
-        return Err(Refusal::Part(slot));
-    }
-    if let Some(slot) = first_no(&AskNamed, bytes, slots) {
-        return Err(Refusal::Path(slot));
-    }
-    if let Some(slot) = first_no(&AskNew, bytes, slots) {
-        return Err(Refusal::Repeated(slot));
-    }
-    Ok(())
+    ask_each(&AskInside, chain).map_err(Refusal::Part)?;
+    ask_each(&AskNamed, chain).map_err(Refusal::Path)?;
+    ask_each(&AskNew, chain).map_err(Refusal::Repeated)
 }
 
 impl<'a> Image<'a> {
-    // The image of no files, before any other is opened: four zero bytes.
+    // The image of no files: four zero bytes.
     pub fn empty() -> Image<'a>
         ensures { (bytes_of result ≡ 0 ∷ 0 ∷ 0 ∷ 0 ∷ []) × (files_of result ≡ 0) }
     {
-        Image {
-            bytes: &[0, 0, 0, 0],
-            slots: [0; 256],
-            count: 0,
-        }
+        let chain = Chain::empty(&[0, 0, 0, 0]);
+        Image { chain }
     }
 
-    // Puts every question to the bytes, in their order, and keeps them in place of the image before; or leaves that as it was.
-    pub fn open(&mut self, bytes: &'a [u8]) -> Result<(), Refusal>
-        ensures { Opened self.old bytes.entry result self.new }
+    // Puts every question to the bytes, in their order: the image over them, or the first question with the answer no.
+    pub fn open(bytes: &'a [u8]) -> Result<Image<'a>, Refusal>
+        ensures { Opened bytes.entry result }
     {
         ask_whole(bytes)?;
-        match chain::follow(bytes) {
-            Ok(chain) => {
-                let slots = chain.slots;
-                let count = chain.count;
-                ask_files(bytes, &slots[0..count])?;
-                *self = Image {
-                    bytes,
-                    slots,
-                    count,
-                };
-                Ok(())
-            }
-            Err(slot) => Err(Refusal::Link(slot)),
-        }
+        let chain = Chain::follow(bytes)?;
+        ask_files(&chain)?;
+        Ok(Image { chain })
     }
 
     // How many files the image has.
@@ -84,20 +63,16 @@ impl<'a> Image<'a> {
         ensures value { result ≡ files_of self.now }
         ensures few { result ≤ 256 }
     {
-        self.count
+        self.chain.count
     }
 
     // The file of a number, counted from 1.
     pub fn file(&self, number: usize) -> Option<File<'a>>
         ensures { FileAt (bytes_of self.now) (files_of self.now) number result }
     {
-        if number == 0 || number > self.count {
-            return None;
-        }
-        let bytes = self.bytes;
-        let slot = self.slots[number - 1];
-        let path = fields::path_of(bytes, slot);
-        let text = fields::text_of(bytes, slot);
+        let slot = self.chain.get(number.checked_sub(1)?)?;
+        let path = slot.named_path();
+        let text = slot.named_text();
         Some(File { path, text })
     }
 }

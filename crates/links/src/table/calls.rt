@@ -4,18 +4,16 @@ ghost use Rattle.links.specs.Linked.{AllLinked, Kept};
 
 use super::LinkTable;
 use crate::link::Links;
-use crate::rows::{links_of, no_links};
+use crate::rows::links_of;
 use image::Image;
 
 impl LinkTable {
-    // What is kept of a file, by its number; of a number that is out of range, that it does not read.
-    pub fn get(&self, number: usize) -> Links
+    // What is kept of a file, by its number: nothing where it does not read, or the number is out of range.
+    pub fn get(&self, number: usize) -> Option<Links>
         ensures { Kept self.now number result }
     {
-        if number == 0 || number > 256 {
-            return no_links();
-        }
-        self.files[number - 1]
+        let before = number.checked_sub(1)?;
+        *self.files.get(before)?
     }
 }
 
@@ -23,15 +21,10 @@ impl LinkTable {
 pub fn link_files(image: &Image<'_>) -> LinkTable
     ensures { AllLinked (bytes_of image.now) (files_of image.now) result }
 {
-    let mut files = [no_links(); 256];
-    for k in 0..image.count() {
-        match image.file(k + 1) {
-            Some(file) => {
-                let links = links_of(image, file);
-                files[k] = links;
-            }
-            None => unreachable(),
-        }
+    let mut files = [None; 256];
+    for (before, file) in image.files().enumerate() {
+        let links = links_of(image, file);
+        files[before] = links;
     }
     LinkTable { files }
 }

@@ -1,3 +1,4 @@
+use Rattle.std.proofs.Common.{refl}
 use Rattle.samples.specs.Samples.{samples}
 use Rattle.samples.proofs.Tables.{table_holds}
 use Rattle.store_path.specs.Base32.{base32, fold}
@@ -5,4 +6,4 @@ use Rattle.samples.proofs.samples_hold.Goals as goal
 
 pub returns : goal.returns
 unfolding samples base32 fold
-returns c = table_holds samples tt
+returns c = table_holds samples refl

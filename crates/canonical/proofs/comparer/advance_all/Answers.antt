@@ -1,23 +1,30 @@
-use Rattle.std.proofs.Common.{ℕ, List, [], ◌∷◌, get_or, take, sym, ap, ◌∙◌}
-use Rattle.std.proofs.lemmas.List.{take_more, take_all}
+use Rattle.std.proofs.Common.{◌≡◌, ℕ, Ok, Err, Result, sym, ap, subst, rules}
 use Rattle.sink.specs.Write.{steps}
-use Rattle.sink.proofs.Writing.{steps_append}
 use Rattle.canonical.specs.Differences.{comparing, progress}
+use Rattle.canonical.proofs.Compared.{one_more, no_more}
 use Rattle.canonical.proofs.comparer.advance_all.Goals as goal
+
+pub returns-in_err-at : goal.returns-in_err-at
+returns-in_err-at c =
+    let t = c.args.text.now in
+    let place = c.in_err-at.field-0.0 in
+    let is : c.from_residual.result ≡ Err place = search rules in
+    let start = ap (progress t) (sym c.in_err-at.was) in
+    subst (λ (r : Result ℕ ℕ). progress t r ≡ steps comparing (progress t c.args.from) c.args.bytes.now) (sym is)
+    (no_more t (progress t c.args.from) c.args.bytes.now 0 place start)
+
+pub loop-b-init : goal.loop-b-init
+loop-b-init c = ap (progress c.args.text.now) (sym c.in_ok-at.was)
 
 pub loop-b-preserved : goal.loop-b-preserved
 loop-b-preserved c =
-    let t = c.args.text.now in
-    let bs = c.args.bytes.now in
-    let i = c.loop-b.b-index in
-    let s = progress t c.args.at c.args.same in
-    let b = get_or bs i 0 in
-    c.advance-state.ensures
-    ∙ ap (λ (l : List ℕ). comparing l b) c.loop-b.invariant
-    ∙ steps_append comparing s (take i bs) (b ∷ [])
-    ∙ ap (steps comparing s) (sym (take_more bs i 0 c.loop-b-test.true))
+    one_more c.args.text.now (progress c.args.text.now c.args.from) c.args.bytes.now c.loop-b.b-index c.loop-b.at (Ok c.in_ok-at-2.at) c.loop-b-test.true c.loop-b.invariant c.in_ok-at-2.ensures
 
-pub returns : goal.returns
-returns c =
-    let bs = c.args.bytes.now in
-    c.loop-b.invariant ∙ ap (steps comparing (progress c.args.text.now c.args.at c.args.same)) (take_all c.loop-b.b-index bs c.loop-b-test.false)
+pub returns-in_err-at-2 : goal.returns-in_err-at-2
+returns-in_err-at-2 c =
+    let t = c.args.text.now in
+    let place = c.in_err-at-2.field-0.0 in
+    let is : c.from_residual-in_err-at-2.result ≡ Err place = search rules in
+    let front = one_more t (progress t c.args.from) c.args.bytes.now c.loop-b.b-index c.loop-b.at (Err place) c.loop-b-test.true c.loop-b.invariant c.in_err-at-2.ensures in
+    subst (λ (r : Result ℕ ℕ). progress t r ≡ steps comparing (progress t c.args.from) c.args.bytes.now) (sym is)
+    (no_more t (progress t c.args.from) c.args.bytes.now _ place front)

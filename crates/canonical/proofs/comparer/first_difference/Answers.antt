@@ -8,7 +8,7 @@ pub returns-in-Ok : goal.returns-in-Ok
 returns-in-Ok c = λ at t m e h a p.
     let s = c.write_canonical.new.sink in
     let w = (c.in-Ok.ensures at t m h a p).told.1 in
-    c.verdict.ensures s.text.now (canonical m) (state_after c.args.text.now s.text.now (canonical m) s.at s.same s.count w)
+    c.difference.ensures s.text.now (canonical m) (state_after c.args.text.now s.text.now (canonical m) s.at s.count w)
 
 pub returns-in-Err : goal.returns-in-Err
 returns-in-Err c = λ at t m e h a p.

@@ -5,19 +5,19 @@ use Rattle.derivation.specs.Judgement.{Answer}
 use Rattle.derivation.proofs.Judging.{text_refused, by_refusal, accepted, up_to, below}
 use Rattle.derivation.proofs.file.read_file.Goals as goal
 
-pub returns-in_err-d : goal.returns-in_err-d
-returns-in_err-d c =
+pub returns-in_err-file : goal.returns-in_err-file
+returns-in_err-file c =
     let p = err_from_is_err_and c.from_residual.result c.from_residual.ensures.1 in
-    let e = c.in_err-d.ensures in
-    rw (p.1, p.2) (text_refused c.args.path.now c.args.text.now c.in_err-d.field-0.0 e.0 e.1)
+    let e = c.in_err-file.ensures in
+    rw (p.1, p.2) (text_refused c.args.path.now c.args.text.now c.in_err-file.field-0.0 e.0 e.1)
 
 pub returns-in_err-put : goal.returns-in_err-put
 returns-in_err-put c =
     let p = err_from_is_err_and c.from_residual-in_err-put.result c.from_residual-in_err-put.ensures.1 in
     let path = c.args.path.now in
     let text = c.args.text.now in
-    let d = c.in_ok-d.d in
-    let e = c.in_ok-d.ensures in
+    let d = c.in_ok-file.file in
+    let e = c.in_ok-file.ensures in
     let x = e.0.tree in
     let h = e.0.held in
     rw (p.1, p.2) (by_refusal path text d e.0 e.1 Present c.in_err-put.field-0.0 c.in_err-put.ensures (up_to path text x 13 (λ l. absurd (omega arith)) (λ l. absurd (omega arith)) (λ l. absurd (omega arith)) (λ l. absurd (omega arith)) (λ l. absurd (omega arith))))
@@ -27,8 +27,8 @@ returns-in_err-put-2 c =
     let p = err_from_is_err_and c.from_residual-in_err-put-2.result c.from_residual-in_err-put-2.ensures.1 in
     let path = c.args.path.now in
     let text = c.args.text.now in
-    let d = c.in_ok-d.d in
-    let e = c.in_ok-d.ensures in
+    let d = c.in_ok-file.file in
+    let e = c.in_ok-file.ensures in
     let x = e.0.tree in
     let h = e.0.held in
     let a1 : Answer path x Present None = c.in_ok-put.ensures x h in
@@ -39,8 +39,8 @@ returns-in_err-put-3 c =
     let p = err_from_is_err_and c.from_residual-in_err-put-3.result c.from_residual-in_err-put-3.ensures.1 in
     let path = c.args.path.now in
     let text = c.args.text.now in
-    let d = c.in_ok-d.d in
-    let e = c.in_ok-d.ensures in
+    let d = c.in_ok-file.file in
+    let e = c.in_ok-file.ensures in
     let x = e.0.tree in
     let h = e.0.held in
     let a1 : Answer path x Present None = c.in_ok-put.ensures x h in
@@ -52,8 +52,8 @@ returns-in_err-put-4 c =
     let p = err_from_is_err_and c.from_residual-in_err-put-4.result c.from_residual-in_err-put-4.ensures.1 in
     let path = c.args.path.now in
     let text = c.args.text.now in
-    let d = c.in_ok-d.d in
-    let e = c.in_ok-d.ensures in
+    let d = c.in_ok-file.file in
+    let e = c.in_ok-file.ensures in
     let x = e.0.tree in
     let h = e.0.held in
     let a1 : Answer path x Present None = c.in_ok-put.ensures x h in
@@ -66,8 +66,8 @@ returns-in_err-put-5 c =
     let p = err_from_is_err_and c.from_residual-in_err-put-5.result c.from_residual-in_err-put-5.ensures.1 in
     let path = c.args.path.now in
     let text = c.args.text.now in
-    let d = c.in_ok-d.d in
-    let e = c.in_ok-d.ensures in
+    let d = c.in_ok-file.file in
+    let e = c.in_ok-file.ensures in
     let x = e.0.tree in
     let h = e.0.held in
     let a1 : Answer path x Present None = c.in_ok-put.ensures x h in
@@ -80,8 +80,8 @@ pub returns : goal.returns
 returns c =
     let path = c.args.path.now in
     let text = c.args.text.now in
-    let d = c.in_ok-d.d in
-    let e = c.in_ok-d.ensures in
+    let d = c.in_ok-file.file in
+    let e = c.in_ok-file.ensures in
     let x = e.0.tree in
     let h = e.0.held in
     let a1 : Answer path x Present None = c.in_ok-put.ensures x h in

@@ -24,18 +24,18 @@ module _ (path text : Bytes) (file arranged : Derivation) (j : Judgeable path te
 
 pub returns-then-not-is_own : goal.returns-then-not-is_own
 returns-then-not-is_own c = λ d g x e right.
-    let p = c.args.path.now in
-    let t = c.args.text.now in
-    let m = derivation_value t c.args.arranged.now in
+    let p = c.args.sorted.path.now in
+    let t = c.args.sorted.text.now in
+    let m = derivation_value t c.args.sorted.file.now in
     at_tree d p t g m _ c.requires.tree x c.requires.written e
     (wrong_path (λ own. false≢true (c.if-not-is_own.ensures.1 (own_back d p g m c.args.own.now.bytes c.args.outputs.now right own))) refl)
 
 pub returns-in-Some : goal.returns-in-Some
 returns-in-Some c = λ d g x e right.
-    let p = c.args.path.now in
-    let t = c.args.text.now in
+    let p = c.args.sorted.path.now in
+    let t = c.args.sorted.text.now in
     let f = c.args.file.now in
-    let a = c.args.arranged.now in
+    let a = c.args.sorted.file.now in
     let m = derivation_value t a in
     let o = c.args.own.now.bytes in
     let ds = c.args.outputs.now in
@@ -46,10 +46,10 @@ returns-in-Some c = λ d g x e right.
 
 pub returns-in-Some-first_wrong_variable : goal.returns-in-Some-first_wrong_variable
 returns-in-Some-first_wrong_variable c = λ d g x e right.
-    let p = c.args.path.now in
-    let t = c.args.text.now in
+    let p = c.args.sorted.path.now in
+    let t = c.args.sorted.text.now in
     let f = c.args.file.now in
-    let a = c.args.arranged.now in
+    let a = c.args.sorted.file.now in
     let m = derivation_value t a in
     let o = c.args.own.now.bytes in
     let ds = c.args.outputs.now in
@@ -64,10 +64,10 @@ returns-in-Some-first_wrong_variable c = λ d g x e right.
 
 pub returns-in-Some-first_difference : goal.returns-in-Some-first_difference
 returns-in-Some-first_difference c = λ d g x e right.
-    let p = c.args.path.now in
-    let t = c.args.text.now in
+    let p = c.args.sorted.path.now in
+    let t = c.args.sorted.text.now in
     let f = c.args.file.now in
-    let a = c.args.arranged.now in
+    let a = c.args.sorted.file.now in
     let m = derivation_value t a in
     let o = c.args.own.now.bytes in
     let ds = c.args.outputs.now in
@@ -81,10 +81,10 @@ returns-in-Some-first_difference c = λ d g x e right.
 
 pub returns-in-None : goal.returns-in-None
 returns-in-None c = λ d g x e right.
-    let p = c.args.path.now in
-    let t = c.args.text.now in
+    let p = c.args.sorted.path.now in
+    let t = c.args.sorted.text.now in
     let f = c.args.file.now in
-    let a = c.args.arranged.now in
+    let a = c.args.sorted.file.now in
     let m = derivation_value t a in
     let o = c.args.own.now.bytes in
     let ds = c.args.outputs.now in

@@ -1,4 +1,4 @@
-use Rattle.std.proofs.Common.{◌≡◌, ◌+◌, List, sym, ◌∙◌, subst}
+use Rattle.std.proofs.Common.{◌≡◌, ◌+◌, List, Some, sym, ◌∙◌, subst, inl}
 use Rattle.aterm.specs.Files.{span}
 use Rattle.aterm.specs.Grammar.{string, meaning}
 use Rattle.aterm.specs.Reads.{Each, past}
@@ -14,8 +14,8 @@ pub returns : goal.returns
 returns c = λ at t h plain.
     let text = c.args.text.now in
     let inner = past string at t.0 + 1 in
-    let p : c.cut.result.now ≡ meaning t.0 = c.cut.ensures _ t.0 h.0 ∙ plain.path in
-    let found : Found (bytes_of c.args.image.now) (files_of c.args.image.now) (meaning t.0) c.find-number.result =
-    subst (λ (q : Bytes). Found (bytes_of c.args.image.now) (files_of c.args.image.now) q c.find-number.result) p c.find-number.ensures.found in
+    let p : c.bytes.result.now ≡ meaning t.0 = c.bytes.ensures ∙ h.0.cut ∙ plain.path in
+    let found : Found (bytes_of c.args.image.now) (files_of c.args.image.now) (meaning t.0) (Some c.in_ok-number.number) =
+    subst (λ (q : Bytes). Found (bytes_of c.args.image.now) (files_of c.args.image.now) q (Some c.in_ok-number.number)) p c.in_ok-number.ensures.found in
     let names : NamesAre text c.as_slice.result.now t.1 = (inner, subst (λ (vs : List (Placed Span)). Each string (λ q v. span text v q) inner vs t.1) (sym c.as_slice.ensures) h.1) in
-    record { file = found; owned = c.is_owned-owned.ensures t.1 names plain.names (meaning t.0) found }
+    (found, c.is_owned-owned.ensures t.1 names plain.names (meaning t.0) (inl found))

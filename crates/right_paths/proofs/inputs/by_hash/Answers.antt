@@ -1,17 +1,13 @@
-use Rattle.std.proofs.Common.{◌≡◌, ◌+◌, List, [], ◌∷◌, ◌++◌, length, take, sym, ap, ◌∙◌, subst, arith}
-use Rattle.std.proofs.lemmas.List.{take_more, take_all, length-take-le}
+use Rattle.std.proofs.Common.{◌≡◌, ◌+◌, List, [], ◌∷◌, ◌++◌, take, sym, ap, ◌∙◌, subst, arith}
+use Rattle.std.proofs.lemmas.List.{take_more, length-take-le}
 use Rattle.hash_rows.specs.declared.hash.Hash.{Hash}
 use Rattle.hash_rows.specs.declared.hash.HashRow.{HashRow}
 use Rattle.hash_rows.specs.Rows.{Gathered, key, row_of}
 use Rattle.hash_rows.specs.Seen.{held}
-use Rattle.hash_rows.proofs.Gathering.{gathered_none, gathered_more}
+use Rattle.hash_rows.proofs.Gathering.{gathered_more}
 use Rattle.right_paths.specs.Numbered.{numbered}
 use Rattle.right_paths.proofs.Numbering.{numbered_push}
 use Rattle.right_paths.proofs.inputs.by_hash.Goals as goal
-
-pub loop-i-init : goal.loop-i-init
-loop-i-init c =
-    (omega (arith, ap length c.new-table.ensures), subst (Gathered []) (sym c.new-table.ensures) (gathered_none key))
 
 pub loop-i-preserved : goal.loop-i-preserved
 loop-i-preserved c =
@@ -25,7 +21,3 @@ loop-i-preserved c =
       subst (λ (ps : List HashRow). Gathered ps (held c.with-table.result)) e
           (gathered_more key (numbered 0 (take i hs)) (held c.loop-i.table) (held c.with-table.result) (row_of h i) c.loop-i.invariant.1 c.with-table.ensures.placed),
     )
-
-pub returns : goal.returns
-returns c =
-    subst (λ (hs : List Hash). Gathered (numbered 0 hs) (held c.loop-i.table)) (take_all c.loop-i.i c.args.hashes.now c.loop-i-test.false) c.loop-i.invariant.1

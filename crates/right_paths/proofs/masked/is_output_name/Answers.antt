@@ -1,19 +1,15 @@
-use Rattle.canonical.specs.Decode.{said}
-use Rattle.canonical.specs.Files.{output_value}
-use Rattle.right_paths.proofs.Masking.{named_here, named_later, named_nowhere, not_equal}
+use Rattle.std.proofs.Common.{◌≡◌, rules, tests}
+use Rattle.std.proofs.lemmas.Iterator.{cases_from_any, YieldsList-from_slice}
+use Rattle.canonical.specs.Files.{said_in, output_value}
+use Rattle.right_paths.specs.Views.{said_by}
+use Rattle.right_paths.proofs.Masking.{named_any}
 use Rattle.right_paths.proofs.masked.is_output_name.Goals as goal
-
-pub returns-in-Equal : goal.returns-in-Equal
-returns-in-Equal c =
-    let t = c.args.text.now in
-    named_here (λ v. output_value t v.value) c.args.outputs.now c.loop-output.output-index _ (said t c.args.name.start c.args.name.«end») c.loop-output-test.true c.loop-output.invariant c.in-Equal.ensures
-
-pub loop-output-preserved : goal.loop-output-preserved
-loop-output-preserved c =
-    let t = c.args.text.now in
-    named_later (λ v. output_value t v.value) c.args.outputs.now c.loop-output.output-index _ (said t c.args.name.start c.args.name.«end») c.loop-output-test.true c.loop-output.invariant (not_equal c.compare.result c.compare.ensures c.in_default.not-Equal)
 
 pub returns : goal.returns
 returns c =
-    let t = c.args.text.now in
-    named_nowhere (λ v. output_value t v.value) c.args.outputs.now c.loop-output.output-index (said t c.args.name.start c.args.name.«end») c.loop-output-test.false c.loop-output.invariant
+    let t = c.args.name.text.now in
+    let n = said_by c.args.name in
+    named_any (λ v. output_value t v.value) n c.args.outputs.now c.any.result
+    (cases_from_any _ _ c.any.result (λ v. said_in t v.value.name ≡ n) (λ v. said_in t v.value.name ≡ n → ⊥) c.any.ensures.ran (YieldsList-from_slice c.args.outputs.now cc)
+    (λ x q k. search (rules, tests))
+    (λ x q k. search (rules, tests)))

@@ -3,45 +3,88 @@ use Rattle.aterm.specs.Grammar.{string, list}
 use Rattle.aterm.specs.declared.file.Derivation.{Derivation}
 use Rattle.aterm.specs.Files.{output, input, from_1, from_2, from_3, from_4, from_5, from_6, file_1, file_2, file_3, file_4, file_5, file_6}
 use Rattle.aterm.proofs.Fields.{field_stops, later_stops, both}
+use Rattle.aterm.proofs.Reading.{within_text}
 use Rattle.aterm.proofs.file.DerivationPart.rest.Goals as goal
 
 pub returns-in_err-outputs : goal.returns-in_err-outputs
-returns-in_err-outputs c =
+returns-in_err-outputs c = λ t e.
     let p = err_from_is_err_and c.from_residual.result c.from_residual.ensures.1 in
-    rw (p.1, p.2) (field_stops (list 16 output) from_1 c.in_err-outputs.ensures)
+    let h = within_text _ t _ e c.args.reader.now.inside in
+    let outputs1 = c.in_err-outputs.ensures t e in
+    (outputs1.0, rw (p.1, p.2) (field_stops (list 16 output) from_1 outputs1.1))
 
 pub returns-in_err-inputs : goal.returns-in_err-inputs
-returns-in_err-inputs c =
+returns-in_err-inputs c = λ t e.
     let p = err_from_is_err_and c.from_residual-in_err-inputs.result c.from_residual-in_err-inputs.ensures.1 in
-    rw (p.1, p.2) (later_stops (list 16 output) from_1 c.requires c.in_ok-outputs.ensures (field_stops (list 64 input) from_2 c.in_err-inputs.ensures))
+    let h = within_text _ t _ e c.args.reader.now.inside in
+    let outputs1 = c.in_ok-outputs.ensures t e in
+    let inputs1 = c.in_err-inputs.ensures t outputs1.0 in
+    (inputs1.0, rw (p.1, p.2) (later_stops (list 16 output) from_1 h outputs1.1 (field_stops (list 64 input) from_2 inputs1.1)))
 
 pub returns-in_err-sources : goal.returns-in_err-sources
-returns-in_err-sources c =
+returns-in_err-sources c = λ t e.
     let p = err_from_is_err_and c.from_residual-in_err-sources.result c.from_residual-in_err-sources.ensures.1 in
-    rw (p.1, p.2) (later_stops (list 16 output) from_1 c.requires c.in_ok-outputs.ensures (later_stops (list 64 input) from_2 c.in_ok-outputs.ensures.inside c.in_ok-inputs.ensures (field_stops (list 64 string) from_3 c.in_err-sources.ensures)))
+    let h = within_text _ t _ e c.args.reader.now.inside in
+    let outputs1 = c.in_ok-outputs.ensures t e in
+    let inputs1 = c.in_ok-inputs.ensures t outputs1.0 in
+    let sources1 = c.in_err-sources.ensures t inputs1.0 in
+    (sources1.0, rw (p.1, p.2) (later_stops (list 16 output) from_1 h outputs1.1 (later_stops (list 64 input) from_2 outputs1.1.inside inputs1.1 (field_stops (list 64 string) from_3 sources1.1))))
 
 pub returns-in_err-system : goal.returns-in_err-system
-returns-in_err-system c =
+returns-in_err-system c = λ t e.
     let p = err_from_is_err_and c.from_residual-in_err-system.result c.from_residual-in_err-system.ensures.1 in
-    rw (p.1, p.2) (later_stops (list 16 output) from_1 c.requires c.in_ok-outputs.ensures (later_stops (list 64 input) from_2 c.in_ok-outputs.ensures.inside c.in_ok-inputs.ensures (later_stops (list 64 string) from_3 c.in_ok-inputs.ensures.inside c.in_ok-sources.ensures (field_stops string from_4 c.in_err-system.ensures))))
+    let h = within_text _ t _ e c.args.reader.now.inside in
+    let outputs1 = c.in_ok-outputs.ensures t e in
+    let inputs1 = c.in_ok-inputs.ensures t outputs1.0 in
+    let sources1 = c.in_ok-sources.ensures t inputs1.0 in
+    let system1 = c.in_err-system.ensures t sources1.0 in
+    (system1.0, rw (p.1, p.2) (later_stops (list 16 output) from_1 h outputs1.1 (later_stops (list 64 input) from_2 outputs1.1.inside inputs1.1 (later_stops (list 64 string) from_3 inputs1.1.inside sources1.1 (field_stops string from_4 system1.1)))))
 
 pub returns-in_err-builder : goal.returns-in_err-builder
-returns-in_err-builder c =
+returns-in_err-builder c = λ t e.
     let p = err_from_is_err_and c.from_residual-in_err-builder.result c.from_residual-in_err-builder.ensures.1 in
-    rw (p.1, p.2) (later_stops (list 16 output) from_1 c.requires c.in_ok-outputs.ensures (later_stops (list 64 input) from_2 c.in_ok-outputs.ensures.inside c.in_ok-inputs.ensures (later_stops (list 64 string) from_3 c.in_ok-inputs.ensures.inside c.in_ok-sources.ensures (later_stops string from_4 c.in_ok-sources.ensures.inside c.in_ok-system.ensures (field_stops string from_5 c.in_err-builder.ensures)))))
+    let h = within_text _ t _ e c.args.reader.now.inside in
+    let outputs1 = c.in_ok-outputs.ensures t e in
+    let inputs1 = c.in_ok-inputs.ensures t outputs1.0 in
+    let sources1 = c.in_ok-sources.ensures t inputs1.0 in
+    let system1 = c.in_ok-system.ensures t sources1.0 in
+    let builder1 = c.in_err-builder.ensures t system1.0 in
+    (builder1.0, rw (p.1, p.2) (later_stops (list 16 output) from_1 h outputs1.1 (later_stops (list 64 input) from_2 outputs1.1.inside inputs1.1 (later_stops (list 64 string) from_3 inputs1.1.inside sources1.1 (later_stops string from_4 sources1.1.inside system1.1 (field_stops string from_5 builder1.1))))))
 
 pub returns-in_err-arguments : goal.returns-in_err-arguments
-returns-in_err-arguments c =
+returns-in_err-arguments c = λ t e.
     let p = err_from_is_err_and c.from_residual-in_err-arguments.result c.from_residual-in_err-arguments.ensures.1 in
-    rw (p.1, p.2) (later_stops (list 16 output) from_1 c.requires c.in_ok-outputs.ensures (later_stops (list 64 input) from_2 c.in_ok-outputs.ensures.inside c.in_ok-inputs.ensures (later_stops (list 64 string) from_3 c.in_ok-inputs.ensures.inside c.in_ok-sources.ensures (later_stops string from_4 c.in_ok-sources.ensures.inside c.in_ok-system.ensures (later_stops string from_5 c.in_ok-system.ensures.inside c.in_ok-builder.ensures (field_stops (list 64 string) from_6 c.in_err-arguments.ensures))))))
+    let h = within_text _ t _ e c.args.reader.now.inside in
+    let outputs1 = c.in_ok-outputs.ensures t e in
+    let inputs1 = c.in_ok-inputs.ensures t outputs1.0 in
+    let sources1 = c.in_ok-sources.ensures t inputs1.0 in
+    let system1 = c.in_ok-system.ensures t sources1.0 in
+    let builder1 = c.in_ok-builder.ensures t system1.0 in
+    let arguments1 = c.in_err-arguments.ensures t builder1.0 in
+    (arguments1.0, rw (p.1, p.2) (later_stops (list 16 output) from_1 h outputs1.1 (later_stops (list 64 input) from_2 outputs1.1.inside inputs1.1 (later_stops (list 64 string) from_3 inputs1.1.inside sources1.1 (later_stops string from_4 sources1.1.inside system1.1 (later_stops string from_5 system1.1.inside builder1.1 (field_stops (list 64 string) from_6 arguments1.1)))))))
 
 pub returns-in_err-environment : goal.returns-in_err-environment
-returns-in_err-environment c =
+returns-in_err-environment c = λ t e.
     let p = err_from_is_err_and c.from_residual-in_err-environment.result c.from_residual-in_err-environment.ensures.1 in
-    rw (p.1, p.2) (later_stops (list 16 output) from_1 c.requires c.in_ok-outputs.ensures (later_stops (list 64 input) from_2 c.in_ok-outputs.ensures.inside c.in_ok-inputs.ensures (later_stops (list 64 string) from_3 c.in_ok-inputs.ensures.inside c.in_ok-sources.ensures (later_stops string from_4 c.in_ok-sources.ensures.inside c.in_ok-system.ensures (later_stops string from_5 c.in_ok-system.ensures.inside c.in_ok-builder.ensures (later_stops (list 64 string) from_6 c.in_ok-builder.ensures.inside c.in_ok-arguments.ensures c.in_err-environment.ensures))))))
+    let h = within_text _ t _ e c.args.reader.now.inside in
+    let outputs1 = c.in_ok-outputs.ensures t e in
+    let inputs1 = c.in_ok-inputs.ensures t outputs1.0 in
+    let sources1 = c.in_ok-sources.ensures t inputs1.0 in
+    let system1 = c.in_ok-system.ensures t sources1.0 in
+    let builder1 = c.in_ok-builder.ensures t system1.0 in
+    let arguments1 = c.in_ok-arguments.ensures t builder1.0 in
+    let environment1 = c.in_err-environment.ensures t arguments1.0 in
+    (environment1.0, rw (p.1, p.2) (later_stops (list 16 output) from_1 h outputs1.1 (later_stops (list 64 input) from_2 outputs1.1.inside inputs1.1 (later_stops (list 64 string) from_3 inputs1.1.inside sources1.1 (later_stops string from_4 sources1.1.inside system1.1 (later_stops string from_5 system1.1.inside builder1.1 (later_stops (list 64 string) from_6 builder1.1.inside arguments1.1 environment1.1)))))))
 
 pub returns : goal.returns
-returns c =
-    let t = c.args.text.now in
+returns c = λ t e.
     let v : Derivation = record { outputs = c.in_ok-outputs.outputs; inputs = c.in_ok-inputs.inputs; sources = c.in_ok-sources.sources; system = c.in_ok-system.system; builder = c.in_ok-builder.builder; arguments = c.in_ok-arguments.arguments; environment = c.in_ok-environment.environment } in
-    both (list 16 output) from_1 c.requires c.in_ok-outputs.ensures (file_1 t v) (both (list 64 input) from_2 c.in_ok-outputs.ensures.inside c.in_ok-inputs.ensures (file_2 t v) (both (list 64 string) from_3 c.in_ok-inputs.ensures.inside c.in_ok-sources.ensures (file_3 t v) (both string from_4 c.in_ok-sources.ensures.inside c.in_ok-system.ensures (file_4 t v) (both string from_5 c.in_ok-system.ensures.inside c.in_ok-builder.ensures (file_5 t v) (both (list 64 string) from_6 c.in_ok-builder.ensures.inside c.in_ok-arguments.ensures (file_6 t v) c.in_ok-environment.ensures)))))
+    let h = within_text _ t _ e c.args.reader.now.inside in
+    let outputs1 = c.in_ok-outputs.ensures t e in
+    let inputs1 = c.in_ok-inputs.ensures t outputs1.0 in
+    let sources1 = c.in_ok-sources.ensures t inputs1.0 in
+    let system1 = c.in_ok-system.ensures t sources1.0 in
+    let builder1 = c.in_ok-builder.ensures t system1.0 in
+    let arguments1 = c.in_ok-arguments.ensures t builder1.0 in
+    let environment1 = c.in_ok-environment.ensures t arguments1.0 in
+    (environment1.0, both (list 16 output) from_1 h outputs1.1 (file_1 t v) (both (list 64 input) from_2 outputs1.1.inside inputs1.1 (file_2 t v) (both (list 64 string) from_3 inputs1.1.inside sources1.1 (file_3 t v) (both string from_4 sources1.1.inside system1.1 (file_4 t v) (both string from_5 system1.1.inside builder1.1 (file_5 t v) (both (list 64 string) from_6 builder1.1.inside arguments1.1 (file_6 t v) environment1.1))))))

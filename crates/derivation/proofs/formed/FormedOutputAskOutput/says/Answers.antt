@@ -1,4 +1,4 @@
-use Rattle.std.proofs.Common.{◌&&◌, Decides, subst}
+use Rattle.std.proofs.Common.{◌&&◌, Decides, subst, ◌∙◌}
 use Rattle.std.proofs.lemmas.Bool.Decides.{Decides-and}
 use Rattle.store_path.specs.Names.{Name, StorePath}
 use Rattle.derivation.specs.Questions.{Plain}
@@ -6,10 +6,10 @@ use Rattle.derivation.proofs.formed.FormedOutputAskOutput.says.Goals as goal
 
 pub returns : goal.returns
 returns c = λ from xs at x a h.
-    let name = c.cut-name.ensures _ x.0 h.0 in
-    let path = c.cut-path.ensures _ x.1.0 h.1.0 in
-    let algorithm = c.cut-algorithm.ensures _ x.1.1.0 h.1.1.0 in
-    let hash = c.cut-hash.ensures _ x.1.1.1 h.1.1.1 in
+    let name = c.bytes-name.ensures ∙ h.0.cut in
+    let path = c.bytes-path.ensures ∙ h.1.0.cut in
+    let algorithm = c.bytes-algorithm.ensures ∙ h.1.1.0.cut in
+    let hash = c.bytes-hash.ensures ∙ h.1.1.1.cut in
     let p1 = c.is_plain.result in
     let p2 = c.is_plain-2.result in
     let p3 = c.is_plain-3.result in

@@ -6,14 +6,6 @@ use Rattle.derivation.proofs.Meant.{keys_decide}
 use Rattle.derivation.proofs.Fresh.{fresh_more, not_fresh, fresh_all}
 use Rattle.derivation.proofs.keys.FreshAsk.says.Goals as goal
 
-pub cut-other-requires : goal.cut-other-requires
-cut-other-requires g c =
-    let p = c.requires.0 in
-    let t = c.args.text.now in
-    let r = split g.T.Keyed.shape (g.T.Keyed.holds t) p.0 c.args.earlier.now p.1 c.loop-y.y-index c.loop-y-test.true c.y-item.result c.y-item.is p.2 in
-    let k = c.key-in-loop-y.ensures t _ r.x r.held in
-    (k.0, g.T.Keyed.label r.x, k.1)
-
 pub loop-y-preserved : goal.loop-y-preserved
 loop-y-preserved g c = λ from xs at x a h.
     let s = g.T.Keyed.shape in
@@ -22,19 +14,19 @@ loop-y-preserved g c = λ from xs at x a h.
     let r = split s (g.T.Keyed.holds t) from c.args.earlier.now xs c.loop-y.y-index c.loop-y-test.true c.y-item.result c.y-item.is a in
     let k = c.key-in-loop-y.ensures t _ r.x r.held in
     let m = c.key.ensures t at x h in
-    let d = keys_decide c.cut-other.result.now c.cut-mine.result.now (label r.x) (label x) (c.cut-other.ensures k.0 (label r.x) k.1) (c.cut-mine.ensures m.0 (label x) m.1) c.same_meaning.result c.same_meaning.ensures in
-    rw add-one (fresh_more s (g.T.Keyed.holds t) label x from c.args.earlier.now xs c.loop-y.y-index c.y-item.result r (c.loop-y.invariant from xs at x a h) (not_from_Decides c.same_meaning.result d c.if-same_meaning.false))
+    let d = keys_decide t k.0 m.0 c.key-in-loop-y.result c.key.result (label r.x) (label x) c.meant.result c.meant-mine.result c.meant.ensures c.meant-mine.ensures k.1 m.1 c.eq.result c.eq.ensures.ran in
+    rw add-one (fresh_more s (g.T.Keyed.holds t) label x from c.args.earlier.now xs c.loop-y.y-index c.y-item.result r (c.loop-y.invariant from xs at x a h) (not_from_Decides c.eq.result d c.if-eq.false))
 
-pub returns-then-same_meaning : goal.returns-then-same_meaning
-returns-then-same_meaning g c = λ from xs at x a h.
+pub returns-then-eq : goal.returns-then-eq
+returns-then-eq g c = λ from xs at x a h.
     let s = g.T.Keyed.shape in
     let t = c.args.text.now in
     let label = g.T.Keyed.label in
     let r = split s (g.T.Keyed.holds t) from c.args.earlier.now xs c.loop-y.y-index c.loop-y-test.true c.y-item.result c.y-item.is a in
     let k = c.key-in-loop-y.ensures t _ r.x r.held in
     let m = c.key.ensures t at x h in
-    let d = keys_decide c.cut-other.result.now c.cut-mine.result.now (label r.x) (label x) (c.cut-other.ensures k.0 (label r.x) k.1) (c.cut-mine.ensures m.0 (label x) m.1) c.same_meaning.result c.same_meaning.ensures in
-    (λ e. absurd (false≢true e), λ f. absurd (not_fresh s (g.T.Keyed.holds t) label x from c.args.earlier.now xs c.loop-y.y-index c.y-item.result r (d.0 c.if-same_meaning.true) f))
+    let d = keys_decide t k.0 m.0 c.key-in-loop-y.result c.key.result (label r.x) (label x) c.meant.result c.meant-mine.result c.meant.ensures c.meant-mine.ensures k.1 m.1 c.eq.result c.eq.ensures.ran in
+    (λ e. absurd (false≢true e), λ f. absurd (not_fresh s (g.T.Keyed.holds t) label x from c.args.earlier.now xs c.loop-y.y-index c.y-item.result r (d.0 c.if-eq.true) f))
 
 pub returns : goal.returns
 returns g c = λ from xs at x a h.

@@ -1,26 +1,31 @@
-use Rattle.std.proofs.Common.{ℕ, List, sym, ◌∙◌, subst}
+use Rattle.std.proofs.Common.{◌≡◌, ◌<◌, List, length, sym, ap, ◌∙◌, subst, set}
+use Rattle.std.specs.List.{refill}
+use Rattle.std.proofs.lemmas.List.{length-set}
+use Rattle.arrayvec.proofs.ArrayVecLemmas.{items-with_items}
 use Rattle.hash_rows.specs.declared.hash.HashRow.{HashRow}
-use Rattle.hash_rows.specs.Rows.{row_of}
-use Rattle.hash_rows.proofs.Changing.{Changed, changed_set, changed_inserted, room_left}
+use Rattle.hash_rows.specs.Rows.{row_of, key_at, Free}
+use Rattle.hash_rows.proofs.Changing.{Changed, changed_set, changed_inserted}
 use Rattle.hash_rows.proofs.table.HashRows.with.Goals.{in-Ok, in-Err, Joined-place}
 use Rattle.hash_rows.proofs.table.HashRows.with.Goals as goal
 
-way : (c : Joined-place) → Changed c.args.self.rows c.args.self.len (row_of c.args.hash c.args.row) c.match-place.result.0 c.match-place.result.1.0
+way : (c : Joined-place) → Changed c.args.self.rows.items (row_of c.args.hash c.args.row) c.match-place.rows.items
 way c =
-    let t = c.args.self in
+    let xs = c.args.self.rows.items in
     let x : HashRow = row_of c.args.hash c.args.row in
+    let rises = c.args.self.rising in
     elim c.match-place.branch [
-      | in-Ok w ↦ (let h = w.in-Ok.ensures in
-          subst (λ (z : List HashRow × (ℕ × Unit {0})). Changed c.args.self.rows c.args.self.len (row_of c.args.hash c.args.row) z.0 z.1.0) (sym w.result-is)
-          (changed_set t.rows t.len x t.wide t.few t.rising w.in-Ok.at h.0 h.1))
-      | in-Err w ↦ (let h = w.in-Err.ensures in
-          subst (λ (z : List HashRow × (ℕ × Unit {0})). Changed c.args.self.rows c.args.self.len (row_of c.args.hash c.args.row) z.0 z.1.0) (sym w.result-is)
-          (changed_inserted t.rows t.len x t.wide t.few t.rising w.insert_at.new.rows w.in-Err.at (w.insert_at.auto.rows ∙ t.wide)
-          (room_left t.rows t.len x t.wide t.few t.rising c.requires) h w.insert_at.ensures))
+      | in-Ok w ↦ (
+          let h = subst (λ (l : List HashRow). (w.in-Ok.at < length l) × (key_at l w.in-Ok.at ≡ c.args.hash.bytes)) c.as_slice.ensures.value w.in-Ok.ensures in
+          let e = ap (λ v. v.items) w.rows-is ∙ ap (λ (l : List HashRow). refill (length xs) xs (set l w.in-Ok.at x)) w.deref_mut.ensures.value ∙ items-with_items c.args.self.rows (set xs w.in-Ok.at x) (length-set xs w.in-Ok.at x) in
+          subst (Changed xs x) (sym e) (changed_set xs x c.requires rises w.in-Ok.at h.0 h.1))
+      | in-Err w ↦ (
+          let h = subst (λ (l : List HashRow). Free l c.args.hash.bytes w.in-Err.at) c.as_slice.ensures.value w.in-Err.ensures in
+          let e = ap (λ v. v.items) w.rows-is ∙ w.insert.ensures.items in
+          subst (Changed xs x) (sym e) (changed_inserted xs x c.requires rises w.in-Err.at h))
     ]
 
 pub invariant_of-result : goal.invariant_of-result
-invariant_of-result c = let w = way c in record { wide = w.wide; few = w.few; rising = w.rising }
+invariant_of-result c = let w = way c in record { few = w.few; rising = w.rising }
 
-pub returns : goal.returns
-returns c = let w = way (goal.at.returns c).Joined-place in record { placed = w.placed; few = w.more }
+pub returns-clause-placed : goal.returns-clause-placed
+returns-clause-placed c = let w = way (goal.at.returns-clause-placed c).Joined-place in w.placed

@@ -1,14 +1,10 @@
-use Rattle.std.proofs.Common.{◌≡◌, ◌+◌, List, [], ◌∷◌, ◌++◌, length, take, sym, ap, ◌∙◌, subst, arith}
-use Rattle.std.proofs.lemmas.List.{take_more, take_all}
+use Rattle.std.proofs.Common.{◌≡◌, ◌+◌, List, [], ◌∷◌, ◌++◌, take, sym, ap, ◌∙◌, subst, arith}
+use Rattle.std.proofs.lemmas.List.{take_more}
 use Rattle.hash_rows.specs.declared.hash.HashRow.{HashRow}
 use Rattle.hash_rows.specs.Rows.{Gathered, key}
 use Rattle.hash_rows.specs.Seen.{held}
-use Rattle.hash_rows.proofs.Gathering.{gathered_none, gathered_more}
+use Rattle.hash_rows.proofs.Gathering.{gathered_more}
 use Rattle.hash_rows.proofs.table.calls.gather.Goals as goal
-
-pub loop-pair-init : goal.loop-pair-init
-loop-pair-init c =
-    (omega (arith, ap length c.new-table.ensures), subst (Gathered []) (sym c.new-table.ensures) (gathered_none key))
 
 pub loop-pair-preserved : goal.loop-pair-preserved
 loop-pair-preserved c =
@@ -20,6 +16,3 @@ loop-pair-preserved c =
       subst (λ (ps : List HashRow). Gathered ps (held c.with-table.result)) e
           (gathered_more key (take c.loop-pair.pair-index c.args.pairs.now) (held c.loop-pair.table) (held c.with-table.result) x c.loop-pair.invariant.1 c.with-table.ensures.placed),
     )
-
-pub returns : goal.returns
-returns c = subst (λ (ps : List HashRow). Gathered ps (held c.loop-pair.table)) (take_all c.loop-pair.pair-index c.args.pairs.now c.loop-pair-test.false) c.loop-pair.invariant.1

@@ -1,6 +1,6 @@
-use Rattle.std.proofs.Common.{refl, arith}
+use Rattle.std.proofs.Common.{Bor, List, ℕ, ap}
 use Rattle.image.proofs.Opened.{opens_empty}
 use Rattle.image.proofs.image.Image.empty.Goals as goal
 
 pub invariant_of-result : goal.invariant_of-result
-invariant_of-result c = record { wide = refl; are = λ m h. absurd (omega arith); opens = ∣ opens_empty ∣₁ }
+invariant_of-result c = record { opens = ∣ opens_empty _ _ (ap (λ (b : Bor (List ℕ)). b.now) c.empty-chain.ensures.bytes) c.empty-chain.ensures.count ∣₁ }

@@ -1,40 +1,32 @@
-use Rattle.std.proofs.Common.{◌-◌, ◌<◌, get_or, ap, ◌∙◌, arith}
-use Rattle.image.specs.Layout.{path_in, text_in}
-use Rattle.image.proofs.Opened.{files_few, slot_some, slot_within, slot_inside, text_short}
+use Rattle.std.proofs.Common.{◌≡◌, ℕ, ◌-◌, List, Bor, sym, ap, ◌∙◌, subst, arith}
+use Rattle.image.specs.Layout.{link, path_in, text_in}
+use Rattle.image.specs.Opening.{Inside}
+use Rattle.image.proofs.Opened.{slot_inside, text_short}
 use Rattle.image.proofs.image.Image.file.Goals as goal
+use Rattle.image.proofs.image.Image.file.Goals.{In_ok-slot}
 
-pub offset_bounds-self-number : goal.offset_bounds-self-number
-offset_bounds-self-number c = omega (arith, files_few c.args.self.now.bytes.now c.args.self.now.count c.args.self.now.opens)
-
-pub bounds-self-number : goal.bounds-self-number
-bounds-self-number c = omega (arith, files_few c.args.self.now.bytes.now c.args.self.now.count c.args.self.now.opens)
-
-pub path_of-path-requires : goal.path_of-path-requires
-path_of-path-requires c =
+-- the slot's parts are inside, since the image has opened
+inside : (c : In_ok-slot) → Inside c.in_ok-slot.slot.bytes.now c.in_ok-slot.slot.index
+inside c =
     let s = c.args.self.now in
-    let m = c.args.number - 1 in
-    let h : m < s.count = omega arith in
-    let is = s.are m h in
-    (slot_some s.bytes.now s.count s.opens m (get_or s.slots m 0) h is, (slot_within s.bytes.now s.count s.opens m (get_or s.slots m 0) h is, slot_inside s.bytes.now s.count s.opens m (get_or s.slots m 0) h is))
+    let e = c.in_ok-slot.ensures in
+    subst (λ (b : Bor (List ℕ)). Inside b.now c.in_ok-slot.slot.index) (sym e.1) (slot_inside s.chain.bytes.now s.chain.count s.opens _ _ e.0 e.2)
 
-pub text_of-text-requires : goal.text_of-text-requires
-text_of-text-requires c =
-    let s = c.args.self.now in
-    let m = c.args.number - 1 in
-    let h : m < s.count = omega arith in
-    let is = s.are m h in
-    (slot_some s.bytes.now s.count s.opens m (get_or s.slots m 0) h is, (slot_within s.bytes.now s.count s.opens m (get_or s.slots m 0) h is, slot_inside s.bytes.now s.count s.opens m (get_or s.slots m 0) h is))
+pub named_path-path-requires : goal.named_path-path-requires
+named_path-path-requires c = inside c
+
+pub named_text-text-requires : goal.named_text-text-requires
+named_text-text-requires c = inside (goal.at.named_text-text-requires c).In_ok-slot
 
 pub returns : goal.returns
 returns c =
-    let s = c.args.self.now in
-    let img = s.bytes.now in
-    let m = c.args.number - 1 in
-    let h : m < s.count = omega arith in
-    let is = s.are m h in (
-      omega arith,
-      c.if-number-self.false,
-      c.path_of-path.ensures ∙ ap (path_in img) is,
-      c.text_of-text.ensures ∙ ap (text_in img) is,
-      text_short img (get_or s.slots m 0) c.text_of-text.result.now c.text_of-text.ensures (slot_inside img s.count s.opens m (get_or s.slots m 0) h is),
+    let img = c.args.self.now.chain.bytes.now in
+    let slot = c.in_ok-slot.slot in
+    let e = c.in_ok-slot.ensures in
+    let is : slot.index ≡ link img (c.args.number - 1) = e.2 ∙ ap (link img) (omega (arith, c.in_ok-checked_sub.ensures)) in (
+      omega (arith, c.in_ok-checked_sub.ensures),
+      omega (arith, c.in_ok-checked_sub.ensures, e.0),
+      c.named_path-path.ensures ∙ ap (λ (b : Bor (List ℕ)). path_in b.now slot.index) e.1 ∙ ap (path_in img) is,
+      c.named_text-text.ensures ∙ ap (λ (b : Bor (List ℕ)). text_in b.now slot.index) e.1 ∙ ap (text_in img) is,
+      text_short slot.bytes.now slot.index c.named_text-text.result.now c.named_text-text.ensures (inside (goal.at.returns c).In_ok-slot),
     )

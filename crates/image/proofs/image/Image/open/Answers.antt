@@ -1,20 +1,30 @@
-use Rattle.std.proofs.Common.{◌-◌, arith}
-use Rattle.image.specs.Opening.{Opens}
-use Rattle.image.proofs.Opened.{walked, opened}
+use Rattle.std.proofs.Common.{ℕ, List, Bor, sym, subst, rules}
+use Rattle.image.specs.Chain.{Sized, Slotted, Chained}
+use Rattle.image.specs.Opening.{Refused}
 use Rattle.image.proofs.image.Image.open.Goals as goal
-use Rattle.image.proofs.image.Image.open.Goals.{In_ok-ask_files-in-Ok}
+use Rattle.image.proofs.image.Image.open.Goals.{In_ok-chain}
 
-pub ask_files-requires : goal.ask_files-requires
-ask_files-requires c =
-    let w = c.in-Ok.ensures in
-    walked c.args.bytes.now c.in-Ok.chain.slots c.in-Ok.chain.count _ (omega arith) (omega (arith, c.in-Ok.chain.wide)) c.in_ok-ask_whole.ensures.1 w.0 w.2
+-- what was found of the bytes holds of the chain's
+record Found (img : List ℕ) (n : ℕ) : Type 0 where
+  sized : Sized img
+  slotted : Slotted img
+  chained : Chained img n
 
-all : (c : In_ok-ask_files-in-Ok) → Opens c.args.bytes.now c.in-Ok.chain.count
-all c =
-    let w = c.in-Ok.ensures in
-    let f = c.in_ok-ask_files-in-Ok.ensures in
-    opened c.args.bytes.now c.in-Ok.chain.slots c.in-Ok.chain.count (c.in-Ok.chain.count - 0) (omega arith) (omega (arith, c.in-Ok.chain.wide))
-    c.in_ok-ask_whole.ensures.0 c.in_ok-ask_whole.ensures.1 w.0 f.0 f.1 f.2
+found : (c : In_ok-chain) → Found c.in_ok-chain.chain.bytes.now c.in_ok-chain.chain.count
+found c =
+    let e = c.in_ok-chain.ensures in
+    let w = c.in_ok-ask_whole.ensures in
+    subst (λ (b : Bor (List ℕ)). Found b.now c.in_ok-chain.chain.count) (sym e.0) (record { sized = w.0; slotted = w.1; chained = e.1 })
 
-pub invariant_of-self : goal.invariant_of-self
-invariant_of-self c = record { wide = c.in-Ok.chain.wide; are = c.in-Ok.ensures.2; opens = ∣ all c ∣₁ }
+pub returns-in_err-ask_files : goal.returns-in_err-ask_files
+returns-in_err-ask_files c =
+    let f = found (goal.at.returns-in_err-ask_files c).In_ok-chain in
+    let r : Refused c.args.bytes.now c.in_err-ask_files.field-0.0 =
+    subst (λ (b : Bor (List ℕ)). Refused b.now c.in_err-ask_files.field-0.0) c.in_ok-chain.ensures.0 (c.in_err-ask_files.ensures f.sized f.slotted f.chained) in
+    search rules
+
+pub invariant_of-result : goal.invariant_of-result
+invariant_of-result c =
+    let f = found (goal.at.invariant_of-result c).In_ok-chain in
+    let q = c.in_ok-ask_files.ensures in
+    record { opens = ∣ record { sized = f.sized; slotted = f.slotted; chained = f.chained; inside = q.0; named = q.1; different = q.2 } ∣₁ }

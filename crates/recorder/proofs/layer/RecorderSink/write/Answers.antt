@@ -2,7 +2,8 @@ use Rattle.std.proofs.Common.{◌≡◌, ap}
 use Rattle.std.proofs.lemmas.Result.{MatchResult-from_err}
 use Rattle.sink.specs.Write.{Held}
 use Rattle.recorder.specs.Record.{recording, recorded}
-use Rattle.recorder.proofs.Records.{recorded_taken, refused, same_below}
+use Rattle.sink.proofs.Writing.{kept, refused}
+use Rattle.recorder.proofs.Records.{recorded_taken, same_below}
 use Rattle.recorder.proofs.layer.RecorderSink.write.Goals as goal
 
 pub returns-in_err-write : goal.returns-in_err-write
@@ -15,8 +16,8 @@ returns-in_err-write g c =
     let as_it_was : k ≡ h = ap g.S.Sink.held {x = c.write.new.self} {y = s.below} stayed in
     record {
       writes =
-          refused (recording 4096 g.S.Sink.step) (layer h) (layer k) c.args.bytes.now _ c.from_residual.ensures.0 (g.S.Sink.wraps s.below)
-          c.in_err-write.ensures.writes.told.over (ap layer as_it_was);
+          refused c.from_residual.ensures.0
+          (kept (recording 4096 g.S.Sink.step) (layer h) (layer k) c.args.bytes.now (g.S.Sink.wraps s.below) c.in_err-write.ensures.writes.told.over (ap layer as_it_was));
       same = MatchResult-from_err _ _ _ c.from_residual.ensures.0 (λ _. same_below s.table c.write.new.self s.below stayed);
     }
 

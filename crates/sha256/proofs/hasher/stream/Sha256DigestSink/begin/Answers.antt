@@ -1,3 +1,5 @@
+use Rattle.std.proofs.Common.{take}
+use Rattle.sha256.specs.Taking.{laid}
 use Rattle.sha256.specs.Hashing.{state}
 use Rattle.sha256.proofs.Sinks.{begun_is}
 use Rattle.sha256.proofs.Steps.{standard}
@@ -5,6 +7,6 @@ use Rattle.sha256.proofs.hasher.stream.Sha256DigestSink.begin.Goals as goal
 
 pub returns : goal.returns
 returns c = record {
-  begins = begun_is (state c.args.self.now) _ c.args.self.now.count c.args.self.now.total c.start-first.ensures;
+  begins = begun_is (state c.args.self.now) _ c.args.self.now.count c.args.self.now.total (λ i. laid (c.new-blocks.ensures.words i) 0 (take (c.new-blocks.ensures.empty i) c.new-blocks.result.block));
   standard = standard;
 }

@@ -11,6 +11,4 @@ returns-then-n-self c =
 pub returns : goal.returns
 returns c =
     let s = c.args.self.now in
-    let after = c.absorb.ensures in
-    let total = after.total in
-    record { writes = record { told = held_taken (state s) _ s.count _ s.total _ c.args.bytes.now (omega arith) after.state after.count (omega arith) }; same = tt }
+    record { writes = record { told = held_taken (state s) _ s.count _ s.total _ c.args.bytes.now (omega arith) (c.absorb.ensures.state s.count) refl (omega arith) }; same = tt }

@@ -1,5 +1,0 @@
-use Rattle.sink.proofs.Writing.{then}
-use Rattle.listing.proofs.write_column.Goals as goal
-
-pub returns : goal.returns
-returns g c = then c.in_ok-write.ensures.writes c.write_decimal.ensures.writes

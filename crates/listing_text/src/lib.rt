@@ -1,0 +1,46 @@
+// The listing of an image as a text on the heap, for the programs that print it.
+#![tactic(auto)]
+
+ghost use Rattle.std.specs.Prelude.{IfOk};
+ghost use Rattle.sink.specs.Digest.{digest as digest_by};
+ghost use Rattle.listing_text.specs.Text.{IsListing};
+
+use anyhow::anyhow;
+use listing::list_into;
+use sink::DigestSink;
+use std::alloc::Global;
+
+// The longest listing: 256 lines of at most 343 bytes, and the last.
+const LONGEST_LISTING: usize = 87818;
+
+// The listing of what was read.
+pub fn listing_of<D: DigestSink>(
+    heap: Global,
+    digest: &mut D,
+    bytes: &[u8],
+) -> anyhow::Result<Vec<u8>>
+    ensures { IfOk result (λ text. IsListing (digest_by D.Sink.step D.DigestSink.start D.DigestSink.answered) bytes.now text.items) }
+{
+    let mut text = vec![in heap; 0u8; LONGEST_LISTING]?;
+    let Ok(count) = list_into(&mut text, digest, bytes) else {
+        return Err(anyhow!("the listing is too long"));
+    };
+    text.truncate(count);
+    Ok(text)
+}
+
+#[cfg(test)]
+mod tests {
+    use super::*;
+    use samples::Zeros;
+    use std::test::Fail;
+
+    #[test]
+    fn listings(rt: HostRuntime) -> Result<(), Fail> {
+        let short = listing_of(rt.alloc(), &mut Zeros::new(), &[])?;
+        assert_eq!(rt; short.as_slice(), b"refused 2 0\n".as_slice());
+        let none = listing_of(rt.alloc(), &mut Zeros::new(), &[0, 0, 0, 0])?;
+        assert_eq!(rt; none.as_slice(), b"files 0\n".as_slice());
+        Ok(())
+    }
+}

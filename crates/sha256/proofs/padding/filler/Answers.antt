@@ -1,0 +1,6 @@
+use Rattle.std.proofs.Common.{◌-◌, ◌%◌, arith}
+use Rattle.sha256.proofs.Ends.{filler_is}
+use Rattle.sha256.proofs.padding.filler.Goals as goal
+
+pub returns : goal.returns
+returns c = filler_is 128 0 ((119 - c.args.count % 64) % 64) (omega arith)
