@@ -1,5 +1,5 @@
 -- What the readers of a row and of a list answer.
-use Rattle.std.proofs.Common.{◌≡◌, ℕ, zero, suc, pred, ◌+◌, ◌-◌, ◌<◌, ◌≤◌, List, [], ◌∷◌, ◌++◌, length, get_or, drop, IfOk, Ok, Err, Result, sym, refl, ap, ◌∙◌, subst, ⊎_elim, append_assoc, append-nil, sub-one, arith, length-append}
+use Rattle.std.proofs.Common.{◌≡◌, ℕ, zero, suc, pred, ◌+◌, ◌-◌, ◌<◌, ◌≤◌, ◌⊎◌, inl, inr, List, [], ◌∷◌, ◌++◌, length, get_or, drop, IfOk, Ok, Err, Result, sym, refl, ap, ◌∙◌, subst, ⊎_elim, append_assoc, append-nil, sub-one, arith, length-append}
 use Rattle.std.proofs.str.Laws.{order}
 use Rattle.aterm.specs.declared.fault.Cause.{Cause}
 use Rattle.aterm.specs.declared.fault.Cause.TheVariants.{Byte, Row}
@@ -10,6 +10,14 @@ use Rattle.aterm.specs.Reads.{Allowed, Because, Stops, Written, Answers, Next, E
 use Rattle.aterm.proofs.Laws.{Free, Starts, After, stop_start, stop_after, sign_at, sign_end, reach}
 use Rattle.aterm.proofs.Free.{free_write, some_tree, opener_close}
 use Rattle.aterm.proofs.Parts.{stop_next, step_next}
+
+-- the row after k rows begins here: the first at once, and another after a comma
+abbrev pub Begins : List ℕ → ℕ → ℕ → ℕ → Type 0
+Begins t k to begun = ((k ≡ 0) × (begun ≡ to)) ⊎ ((0 < k) × Next 44 t to (Ok begun))
+
+pub begins_from : (t : List ℕ) (k to begun : ℕ) → Begins t k to begun → to ≤ begun
+begins_from t k to begun (inl (e, r)) = omega arith
+begins_from t k to begun (inr (e, r)) = omega (arith, r.0)
 
 tail_eq : {a b : Sign} {r s : List Sign} → a ∷ r ≡ b ∷ s → r ≡ s
 tail_eq e = cc
@@ -270,3 +278,49 @@ module _ (s : Shape) (n : ℕ) where
           each_more p [] (y ∷ xs) u x a q b = absurd a
           each_more p (v ∷ us) [] u x a q b = absurd a
           each_more p (v ∷ us) (y ∷ xs) u x a q b = (a.0, each_more (past s p y) us xs u x a.1 q b)
+
+  -- k rows are read, up to `to`, and perhaps none
+  abbrev pub Partly : {V : Type 0} → (ℕ → V → Tree s → Type 0) → List ℕ → ℕ → List (Placed V) → ℕ → ℕ → Type 0
+  Partly H t at vs k to = ((k ≡ 0) × (vs ≡ []) × (to ≡ at)) ⊎ ((0 < k) × Listed H t at vs k to)
+
+  pub partly_none : {V : Type 0} (H : ℕ → V → Tree s → Type 0) (t : List ℕ) (at : ℕ) (vs : List (Placed V)) (k : ℕ) → k ≡ 0 → vs ≡ [] → Partly H t at vs k at
+  partly_none H t at vs k e f = inl (e, f, refl)
+
+  module _ {V : Type 0} {H : ℕ → V → Tree s → Type 0} {t : List ℕ} {at : ℕ} (h : at ≤ length t) {vs : List (Placed V)} {k to : ℕ} (p : Partly H t at vs k to) where
+    pub partly_closed : (next : ℕ) → Next 93 t to (Ok next) → Written (write (list n s)) (Each s H at vs) t at next
+    partly_closed next m =
+        ⊎_elim
+        (λ z. empty_list H t at h vs z.1 next (subst (λ i. Next 93 t i (Ok next)) z.2 m))
+        (λ z. list_closed h z.1 next m)
+        p
+
+    pub partly_comma : 0 < k → (f g : Fault) → Next 93 t to (Err f) → Next 44 t to (Err g) → Stops (write (list n s)) (drop at (signs t)) at g.place g.cause
+    partly_comma some f g m o = ⊎_elim (λ z. absurd (omega arith)) (λ z. comma_stops h z.1 f g m o) p
+
+    module _ (begun : ℕ) (b : Begins t k to begun) where
+      pub partly_stops : (g : Fault) → Next 93 t to (Err g) → (f : Fault) → Stops (written_row s (n - k)) (drop begun (signs t)) begun f.place f.cause → Stops (write (list n s)) (drop at (signs t)) at f.place f.cause
+      partly_stops g m f st = go p b
+        where
+          go : Partly H t at vs k to → Begins t k to begun → Stops (write (list n s)) (drop at (signs t)) at f.place f.cause
+          go (inl (e, v, q)) (inl (d, r)) =
+              let all_left : n - k ≡ n = omega arith in
+              first_row_stops H t at h g (subst (λ i. Next 93 t i (Err g)) q m) f
+              (subst (λ i. Stops (written_row s i) (drop at (signs t)) at f.place f.cause) all_left (subst (λ i. Stops (written_row s (n - k)) (drop i (signs t)) i f.place f.cause) (r ∙ q) st))
+          go (inl (e, v, q)) (inr (d, r)) = absurd (omega arith)
+          go (inr (e, l)) (inl (d, r)) = absurd (omega arith)
+          go (inr (e, l)) (inr (d, r)) = row_stops h l begun r f st
+
+      pub partly_more : (v : V) (after : ℕ) → Written (written_row s (n - k)) (H (begun + 1) v) t begun after → (us : List (Placed V)) → us ≡ vs ++ record { place = begun; value = v } ∷ [] → Partly H t at us (k + 1) after
+      partly_more v after w us e = inr (omega arith, go p b)
+        where
+          go : Partly H t at vs k to → Begins t k to begun → Listed H t at us (k + 1) after
+          go (inl (z, none, q)) (inl (d, r)) =
+              let all_left : n - k ≡ n = omega arith in
+              let first : 1 ≡ k + 1 = omega arith in
+              let from = subst (λ i. Written (written_row s n) (H (i + 1) v) t i after) (r ∙ q) (subst (λ i. Written (written_row s i) (H (begun + 1) v) t begun after) all_left w) in
+              subst (λ j. Listed H t at us j after) first
+              (first_row H t at h v after from us
+              (e ∙ ap (λ l. l ++ record { place = begun; value = v } ∷ []) none ∙ ap (λ i. record { place = i; value = v } ∷ []) (r ∙ q)))
+          go (inl (z, none, q)) (inr (d, r)) = absurd (omega arith)
+          go (inr (z, l)) (inl (d, r)) = absurd (omega arith)
+          go (inr (z, l)) (inr (d, r)) = next_row h l begun r v after w us e

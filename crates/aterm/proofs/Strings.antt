@@ -1,5 +1,5 @@
 -- The turns of the string reader.
-use Rattle.std.proofs.Common.{◌≡◌, ℕ, zero, suc, ◌+◌, ◌-◌, ◌<◌, ◌≤◌, T, List, [], ◌∷◌, ◌++◌, map, length, get_or, take, drop, sym, refl, ap, ◌∙◌, append_assoc, append-nil, arith, length-drop, length-take, get_or-drop, take-suc, drop-drop, ne_eqb}
+use Rattle.std.proofs.Common.{◌≡◌, ℕ, zero, suc, ◌+◌, ◌-◌, ◌<◌, ◌≤◌, T, List, [], ◌∷◌, ◌++◌, map, length, get_or, take, drop, sym, refl, ap, ◌∙◌, append_assoc, append-nil, arith, length-drop, length-take, get_or-drop, take-suc, take_all, drop-drop, ne_eqb}
 use Rattle.aterm.specs.declared.fault.Cause.TheVariants.{Byte}
 use Rattle.aterm.specs.declared.part.Mode.{Mode}
 use Rattle.aterm.specs.declared.part.Mode.TheVariants.{Plain, Escaped}
@@ -28,6 +28,13 @@ seg_more t i j h k =
     let e1 : j + 1 - i ≡ suc (j - i) = omega arith in
     let e2 : i + (j - i) ≡ j = omega arith in
     ap (λ n. take n (drop i t)) e1 ∙ take-suc (drop i t) (j - i) 0 (omega arith) ∙ ap (λ b. seg t i j ++ b ∷ []) (get_or-drop i t (j - i) 0 ∙ ap (λ n. get_or t n 0) e2)
+
+-- a byte of what follows `at`, by its place in the text
+pub by_place : (t : List ℕ) (at i : ℕ) → i < length (seg t at (length t)) → (at + i < length t) × (get_or (seg t at (length t)) i 0 ≡ get_or t (at + i) 0)
+by_place t at i h =
+    let l = length-drop at t in
+    let e = take_all (length t - at) (drop at t) (omega arith) in
+    (omega (arith, ap length e), ap (λ s. get_or s i 0) e ∙ get_or-drop at t i 0)
 
 pub raw_append : (cs ds : List Char) → raw (cs ++ ds) ≡ raw cs ++ raw ds
 raw_append [] ds = refl

@@ -1,7 +1,7 @@
 -- The shape of a derivation, what a text reads as, and the one fault of a text that does not read.
 -- Source: E. Dolstra, The Purely Functional Software Deployment Model (2006), section 5.4 (derivations in ATerm form), and the Nix manual, "Derivations".
 -- The limits of the lists and the fault are this project's own rule (docs/CALLS.md).
-use Rattle.std.specs.Prelude.{◌≡◌, ℕ, List, [], ◌∷◌, ◌++◌, map, take, Ok, Err, Result}
+use Rattle.std.specs.Prelude.{◌≡◌, ℕ, List, [], ◌∷◌, ◌++◌, map, Ok, Err, Result}
 use Rattle.aterm.specs.declared.fault.Fault.{Fault}
 use Rattle.aterm.specs.declared.file.Output.{Output}
 use Rattle.aterm.specs.declared.file.Input.{Input}
@@ -10,6 +10,7 @@ use Rattle.aterm.specs.declared.file.Derivation.{Derivation}
 use Rattle.aterm.specs.declared.part.Span.{Span}
 use Rattle.aterm.specs.declared.rows.Placed.{Placed}
 use Rattle.aterm.specs.Grammar.{Sign, byte, end, signs, Shape, string, row, list, Fields, last, field, Tree, Trees, Within, write}
+use Rattle.aterm.specs.Tables.{rows_of}
 use Rattle.aterm.specs.Reads.{Stops, Spans, Each, Last, Both}
 
 -- (name,path,algorithm,hash)
@@ -56,7 +57,7 @@ abbrev pub in_output : List ℕ → ℕ → Output → Tree output → Type 0
 in_output text at v = Both string (span text v.name) (output_1 text v) at
 
 abbrev pub input_1 : List ℕ → Input → ℕ → List (Tree string) → Type 0
-input_1 text v = Last (spans text (take v.names.len v.names.items))
+input_1 text v = Last (spans text (rows_of v.names))
 
 abbrev pub in_input : List ℕ → ℕ → Input → Tree input → Type 0
 in_input text at v = Both string (span text v.path) (input_1 text v) at
@@ -95,10 +96,10 @@ abbrev pub from_1 : Fields
 from_1 = field (list 64 input) from_2
 
 abbrev pub file_6 : List ℕ → Derivation → ℕ → Trees from_6 → Type 0
-file_6 text v = Last (variables text (take v.environment.len v.environment.items))
+file_6 text v = Last (variables text (rows_of v.environment))
 
 abbrev pub file_5 : List ℕ → Derivation → ℕ → Trees from_5 → Type 0
-file_5 text v = Both (list 64 string) (spans text (take v.arguments.len v.arguments.items)) (file_6 text v)
+file_5 text v = Both (list 64 string) (spans text (rows_of v.arguments)) (file_6 text v)
 
 abbrev pub file_4 : List ℕ → Derivation → ℕ → Trees from_4 → Type 0
 file_4 text v = Both string (span text v.builder) (file_5 text v)
@@ -107,13 +108,13 @@ abbrev pub file_3 : List ℕ → Derivation → ℕ → Trees from_3 → Type 0
 file_3 text v = Both string (span text v.system) (file_4 text v)
 
 abbrev pub file_2 : List ℕ → Derivation → ℕ → Trees from_2 → Type 0
-file_2 text v = Both (list 64 string) (spans text (take v.sources.len v.sources.items)) (file_3 text v)
+file_2 text v = Both (list 64 string) (spans text (rows_of v.sources)) (file_3 text v)
 
 abbrev pub file_1 : List ℕ → Derivation → ℕ → Trees from_1 → Type 0
-file_1 text v = Both (list 64 input) (inputs text (take v.inputs.len v.inputs.items)) (file_2 text v)
+file_1 text v = Both (list 64 input) (inputs text (rows_of v.inputs)) (file_2 text v)
 
 abbrev pub in_derivation : List ℕ → ℕ → Derivation → Tree derivation → Type 0
-in_derivation text at v = Both (list 16 output) (outputs text (take v.outputs.len v.outputs.items)) (file_1 text v) at
+in_derivation text at v = Both (list 16 output) (outputs text (rows_of v.outputs)) (file_1 text v) at
 
 -- the fault of a text
 abbrev pub IsFault : List ℕ → Fault → Type 0

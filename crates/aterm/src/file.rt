@@ -2,7 +2,7 @@
 ghost use Rattle.aterm.specs.Files.{output, input, variable, derivation, in_output, in_input, in_variable, in_derivation, Judged};
 
 use crate::fault::{Cause, Fault};
-use crate::part::{Part, Span};
+use crate::part::{Part, Shaped, Span};
 use crate::reader::Reader;
 use crate::rows::Rows;
 
@@ -15,11 +15,13 @@ pub struct Output {
     pub hash: Span,
 }
 
-impl Part for Output {
+impl Shaped for Output {
     ghost shape = { output };
 
     ghost holds = { in_output };
+}
 
+impl Part for Output {
     fn open() -> u8 {
         b'('
     }
@@ -45,11 +47,13 @@ pub struct Input {
     pub names: Rows<Span, 16>,
 }
 
-impl Part for Input {
+impl Shaped for Input {
     ghost shape = { input };
 
     ghost holds = { in_input };
+}
 
+impl Part for Input {
     fn open() -> u8 {
         b'('
     }
@@ -68,11 +72,13 @@ pub struct Variable {
     pub value: Span,
 }
 
-impl Part for Variable {
+impl Shaped for Variable {
     ghost shape = { variable };
 
     ghost holds = { in_variable };
+}
 
+impl Part for Variable {
     fn open() -> u8 {
         b'('
     }
@@ -96,11 +102,13 @@ pub struct Derivation {
     pub environment: Rows<Variable, 128>,
 }
 
-impl Part for Derivation {
+impl Shaped for Derivation {
     ghost shape = { derivation };
 
     ghost holds = { in_derivation };
+}
 
+impl Part for Derivation {
     fn open() -> u8 {
         b'('
     }

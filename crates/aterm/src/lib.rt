@@ -13,5 +13,5 @@ pub use fault::{Cause, Fault};
 pub use file::{Derivation, Input, Output, Variable, read};
 pub use law::every_text_is_judged;
 pub use meant::Meant;
-pub use part::Span;
+pub use part::{Shaped, Span};
 pub use rows::{Placed, Rows};

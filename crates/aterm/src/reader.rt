@@ -32,7 +32,7 @@ impl<'a> Reader<'a> {
     pub fn expect(&mut self, b: u8) -> Result<(), Fault>
         ensures { Meets b self.old result self.new }
     {
-        if self.at < self.text.len() && self.text[self.at] == b {
+        if self.text.get(self.at) == Some(&b) {
             self.at += 1;
             Ok(())
         } else {

@@ -1,5 +1,5 @@
 // Tables of rows, each with its place in the text.
-ghost use Rattle.std.specs.Prelude.{◌≡◌, ◌+◌, ◌<◌, ◌≤◌, [], ◌∷◌, ◌++◌, take};
+ghost use Rattle.std.specs.Prelude.{◌≡◌, ◌+◌, ◌<◌, ◌≤◌, [], ◌∷◌, ◌++◌};
 ghost use Rattle.std.specs.List.{AllZip};
 
 use std::alloc::AllocError;
@@ -13,13 +13,14 @@ pub struct Placed<T> {
 
 // At most N rows: the first `len` of `items`. The items after those are of no meaning.
 // A table of its own: the library crates use no heap, and an `ArrayVec` is not `Copy`, as a derivation is.
+// No `impl Model`: a `Copy` type needs its `inverse`, and the list of the rows forgets the items after them.
 pub struct Rows<T, const N: usize> {
     pub items: [Placed<T>; N],
     pub len: usize,
     ghost fits: { len ≤ N },
 }
 
-// By hand: `Clone` is not derived for a struct with a ghost field.
+// By hand: `Clone` is not derived over a ghost field where the struct has a type parameter.
 impl<T: Copy, const N: usize> Clone for Rows<T, N> {
     ghost is_clone = { λ x y. y ≡ x };
 
@@ -32,6 +33,7 @@ impl<T: Copy, const N: usize> Clone for Rows<T, N> {
 
 impl<T: Copy, const N: usize> Copy for Rows<T, N> {}
 
+// By hand: `Default` is not derived over a ghost field.
 impl<T: Copy + Default, const N: usize> Default for Rows<T, N> {
     ghost is_default = { λ r. r.len ≡ 0 };
 
@@ -41,6 +43,8 @@ impl<T: Copy + Default, const N: usize> Default for Rows<T, N> {
 }
 
 impl<T: Copy, const N: usize> Rows<T, N> {
+    ghost use Rattle.aterm.specs.Tables.{rows_of};
+
     // No rows; `blank` fills the room.
     pub fn empty(blank: T) -> Rows<T, N>
         ensures { result.len ≡ 0 }
@@ -62,38 +66,45 @@ impl<T: Copy, const N: usize> Rows<T, N> {
 
     // The rows that are there.
     pub fn as_slice(&self) -> &[Placed<T>]
-        ensures { result.now ≡ take self.now.len self.now.items }
+        ensures { result.now ≡ rows_of self.now }
     {
         &self.items[..self.len]
     }
 
-    // Changes each row, which keeps its place.
+    // The first `len` rows. Apart, since the borrow checker covers no function that uses an array of T after it was copied out.
+    fn cut(self, len: usize) -> Rows<T, N>
+        requires { len ≤ self.len }
+        ensures { result.len ≡ len }
+    {
+        Rows {
+            items: self.items,
+            len,
+        }
+    }
+
+    // Changes each row, which keeps its place. A loop: the array's own `map` asks that an iterator of its items fits in memory, which is not
+    // known of every T and N, and it would change the items that are of no meaning.
     pub fn map<F: Fn(T) -> T>(self, change: F) -> Rows<T, N>
         requires { F.IsAlwaysCallable change }
         ensures len { result.len ≡ self.len }
-        ensures rows { AllZip (λ v w. (w.place ≡ v.place) × F.post change v.value w.value) (take self.len self.items) (take result.len result.items) }
+        ensures rows { AllZip (λ v w. (w.place ≡ v.place) × F.post change v.value w.value) (rows_of self) (rows_of result) }
     {
-        // By number: after a loop over a loan of part of the table, nothing is known of the table.
-        let mut items = self.items;
-        for i in 0..self.len {
-            let row = items[i];
+        let mut changed = self.cut(0);
+        for row in self.as_slice() {
             let value = change(row.value);
-            items[i] = Placed {
+            changed.push(Placed {
                 place: row.place,
                 value,
-            };
+            });
         }
-        Rows {
-            items,
-            len: self.len,
-        }
+        changed
     }
 
     // Adds a row; there is room for it.
     pub(crate) fn push(&mut self, x: Placed<T>)
         requires { self.old.len < N }
         ensures len { self.new.len ≡ self.old.len + 1 }
-        ensures items { take self.new.len self.new.items ≡ take self.old.len self.old.items ++ x ∷ [] }
+        ensures items { rows_of self.new ≡ rows_of self.old ++ x ∷ [] }
     {
         self.items[self.len] = x;
         self.len += 1;

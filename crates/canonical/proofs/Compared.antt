@@ -1,21 +1,10 @@
 -- What a comparing sink knows after a text was written to it.
-use Rattle.std.proofs.Common.{◌≡◌, ℕ, suc, ◌+◌, ◌-◌, ◌^◌, ◌<◌, ◌≤◌, Bool, eqb, ltb, ◌⊎◌, List, [], ◌∷◌, ◌++◌, length, get_or, take, drop, sym, refl, ap, ◌∙◌, subst, inl, inr, ⊎_elim, Ok, Err, Result, arith, length-append, eq-eqb, ne_eqb}
-use Rattle.std.proofs.lemmas.List.{take_more, drop_all, append-nil, take-append-drop}
+use Rattle.std.proofs.Common.{◌≡◌, ℕ, suc, ◌+◌, ◌<◌, ◌≤◌, Bool, eqb, ltb, ◌⊎◌, List, [], ◌∷◌, ◌++◌, length, sym, refl, ap, ◌∙◌, subst, inl, inr, ⊎_elim, Ok, Err, arith, length-append, eq-eqb, ne_eqb}
+use Rattle.std.proofs.lemmas.List.{append-nil}
 use Rattle.std.specs.Bool.{then_some}
 use Rattle.std.proofs.lemmas.Bool.{cond-true, cond-false, cases_eq, cases_Bool, ltb-true, ltb-false}
-use Rattle.sink.specs.Write.{Held, steps, filled, Taken, Stopped}
-use Rattle.sink.proofs.Writing.{parts, kept, steps_append}
-use Rattle.canonical.specs.Differences.{DifferAt, FirstDifference, comparing, progress, compared}
-
-pub compared_taken : (t : List ℕ) (at at' : Result ℕ ℕ) (count count' : ℕ) (bs : List ℕ)
-    → progress t at' ≡ steps comparing (progress t at) bs → count' ≡ count + length bs → count' < 2 ^ 128
-    → Taken comparing (compared t at count) bs (compared t at' count')
-unfolding filled
-compared_taken t at at' count count' bs e more fits =
-    (omega arith, parts _ _ _ _ _ _ _ _ _ _ e (omega arith) (omega arith) (sym (drop_all (length bs) [] (omega arith))) refl)
-
-pub compared_kept : (t : List ℕ) (at : Result ℕ ℕ) (count : ℕ) (bs : List ℕ) → 2 ^ 128 - 1 - count < length bs → Stopped comparing (compared t at count) bs (compared t at count)
-compared_kept t at count bs past = kept comparing (compared t at count) (compared t at count) bs (omega arith) past refl
+use Rattle.sink.specs.Write.{steps}
+use Rattle.canonical.specs.Differences.{DifferAt, FirstDifference, comparing, progress}
 
 -- all of ys stood there, or the two parted
 abbrev Ahead : ℕ → List ℕ → List ℕ → Type 0
@@ -27,18 +16,6 @@ ApartAt n xs ys = (place : ℕ) × (DifferAt xs ys place × ((rest : List ℕ) �
 stays : (n : ℕ) (xs ys : List ℕ) → steps comparing (1 ∷ n ∷ xs) ys ≡ 1 ∷ n ∷ xs
 stays n xs [] = refl
 stays n xs (y ∷ ys) = stays n xs ys
-
--- one more byte of those that are written
-pub one_more : (t s bs : List ℕ) (n at : ℕ) (r : Result ℕ ℕ) → n < length bs → progress t (Ok at) ≡ steps comparing s (take n bs)
-    → progress t r ≡ comparing (progress t (Ok at)) (get_or bs n 0) → progress t r ≡ steps comparing s (take (n + 1) bs)
-one_more t s bs n at r l h e =
-    e ∙ ap (λ (k : List ℕ). comparing k (get_or bs n 0)) h ∙ steps_append comparing s (take n bs) (get_or bs n 0 ∷ []) ∙ ap (steps comparing s) (sym (take_more bs n 0 l))
-
--- what comes after a difference changes nothing
-pub no_more : (t s bs : List ℕ) (n at : ℕ) → progress t (Err at) ≡ steps comparing s (take n bs) → progress t (Err at) ≡ steps comparing s bs
-no_more t s bs n at h =
-    sym (stays at (drop at t) (drop n bs)) ∙ ap (λ (k : List ℕ). steps comparing k (drop n bs)) h
-    ∙ steps_append comparing s (take n bs) (drop n bs) ∙ ap (steps comparing s) (take-append-drop n bs)
 
 goes : (n : ℕ) (xs ys : List ℕ) → Ahead n xs ys ⊎ ApartAt n xs ys
 goes n xs [] = inl (xs, (refl, let e : n ≡ n + 0 = omega arith in ap (λ (k : ℕ). 0 ∷ k ∷ xs) e))
@@ -124,7 +101,3 @@ module _ (t ys : List ℕ) where
         let q : at ≡ a.0 = (let r = (heads (h ∙ a.1.1.1)).1 in omega arith) in
         subst (DifferAt t ys) (sym q) a.1.0)
         (goes 0 t ys)
-
-pub state_after : (t u ys : List ℕ) (at : Result ℕ ℕ) (count : ℕ) → compared u at count ≡ filled comparing (compared t (Ok 0) 0) ys → progress u at ≡ steps comparing (progress t (Ok 0)) ys
-unfolding filled
-state_after t u ys at count e = ap (λ (x : Held). x.meaning.state) e

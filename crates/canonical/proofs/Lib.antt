@@ -11,3 +11,4 @@ pub mod Arranging
 pub mod Alone
 pub mod Back
 pub mod Compared
+pub mod Watched

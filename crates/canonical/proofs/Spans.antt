@@ -1,5 +1,5 @@
 -- What a derivation holds of a text says what the tree says.
-use Rattle.std.proofs.Common.{◌≡◌, ℕ, ◌+◌, false, List, [], ◌∷◌, take, ap, ◌∙◌}
+use Rattle.std.proofs.Common.{◌≡◌, ℕ, ◌+◌, false, List, [], ◌∷◌, ap, ◌∙◌}
 use Rattle.aterm.specs.declared.part.Span.{Span}
 use Rattle.aterm.specs.declared.rows.Placed.{Placed}
 use Rattle.aterm.specs.declared.file.Output.{Output}
@@ -9,6 +9,7 @@ use Rattle.aterm.specs.declared.file.Derivation.{Derivation}
 use Rattle.aterm.specs.Grammar.{Char, meaning, Tree}
 use Rattle.aterm.specs.Reads.{Each, past}
 use Rattle.aterm.specs.Files.{output, input, variable, derivation, span, in_output, in_input, in_variable, in_derivation}
+use Rattle.aterm.specs.Tables.{rows_of}
 use Rattle.aterm.specs.Meaning.{meant}
 use Rattle.aterm.proofs.Meaning.{meant_raw}
 use Rattle.canonical.specs.Order.{Along}
@@ -40,25 +41,25 @@ module _ (t : List ℕ) where
   )
 
   input_tells : (at : ℕ) (v : Input) (x : Tree input) → in_input t at v x → Tells an_input x (input_value t v)
-  input_tells at v x h = (span_means t _ v.path x.0 h.0, spans_tell (take v.names.len v.names.items) x.1 _ h.1)
+  input_tells at v x h = (span_means t _ v.path x.0 h.0, spans_tell (rows_of v.names) x.1 _ h.1)
 
   variable_tells : (at : ℕ) (v : Variable) (x : Tree variable) → in_variable t at v x → Tells a_variable x (variable_value t v)
   variable_tells at v x h = (span_means t _ v.name x.0 h.0, span_means t _ v.value x.1 h.1)
 
   pub derivation_tells : (at : ℕ) (v : Derivation) (x : Tree derivation) → in_derivation t at v x → Tells a_derivation x (derivation_value t v)
   derivation_tells at v x h = (
-    each_tells an_output (in_output t) (output_value t) output_tells (take v.outputs.len v.outputs.items) x.0 _ h.0,
+    each_tells an_output (in_output t) (output_value t) output_tells (rows_of v.outputs) x.0 _ h.0,
     (
-      each_tells an_input (in_input t) (input_value t) input_tells (take v.inputs.len v.inputs.items) x.1.0 _ h.1.0,
+      each_tells an_input (in_input t) (input_value t) input_tells (rows_of v.inputs) x.1.0 _ h.1.0,
       (
-        spans_tell (take v.sources.len v.sources.items) x.1.1.0 _ h.1.1.0,
+        spans_tell (rows_of v.sources) x.1.1.0 _ h.1.1.0,
         (
           span_means t _ v.system x.1.1.1.0 h.1.1.1.0,
           (
             span_means t _ v.builder x.1.1.1.1.0 h.1.1.1.1.0,
             (
-              spans_tell (take v.arguments.len v.arguments.items) x.1.1.1.1.1.0 _ h.1.1.1.1.1.0,
-              each_tells a_variable (in_variable t) (variable_value t) variable_tells (take v.environment.len v.environment.items) x.1.1.1.1.1.1 _ h.1.1.1.1.1.1,
+              spans_tell (rows_of v.arguments) x.1.1.1.1.1.0 _ h.1.1.1.1.1.0,
+              each_tells a_variable (in_variable t) (variable_value t) variable_tells (rows_of v.environment) x.1.1.1.1.1.1 _ h.1.1.1.1.1.1,
             ),
           ),
         ),

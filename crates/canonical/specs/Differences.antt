@@ -1,8 +1,7 @@
 -- Where two texts first differ, and what a sink means that compares a text with what is written to it.
 -- Source: this project's own rule (docs/FORMATS.md).
-use Rattle.std.specs.Prelude.{◌≡◌, ℕ, zero, suc, ◌+◌, ◌-◌, ◌%◌, ◌^◌, ◌<◌, cond, List, [], ◌∷◌, ◌++◌, length, drop, Some, None, Ok, Err, Option, Result, ◌==◌}
-use Rattle.std.proofs.Common.{arith}
-use Rattle.sink.specs.Write.{Step, Held}
+use Rattle.std.specs.Prelude.{◌≡◌, ℕ, zero, suc, ◌+◌, cond, List, [], ◌∷◌, ◌++◌, length, drop, Some, None, Ok, Err, Option, Result, ◌==◌}
+use Rattle.sink.specs.Write.{Step}
 
 -- two texts that differ at once: other first bytes, or only one has ended
 abbrev pub Parted : List ℕ → List ℕ → Type 0
@@ -38,14 +37,3 @@ comparing (suc f ∷ n ∷ xs) b = suc f ∷ n ∷ xs
 abbrev pub progress : List ℕ → Result ℕ ℕ → List ℕ
 progress t (Ok at) = 0 ∷ at ∷ drop at t
 progress t (Err at) = 1 ∷ at ∷ drop at t
-
--- a sink that has compared so many bytes; it takes as many as a count of 128 bits holds
-abbrev pub compared : List ℕ → Result ℕ ℕ → ℕ → Held
-compared t at count = record {
-  meaning = record { state = progress t at; remaining = 2 ^ 128 - 1 - count; total = count % (2 ^ 64) };
-  space = [];
-  loan = 0;
-}
-
-pub compared_wraps : (t : List ℕ) (at : Result ℕ ℕ) (count : ℕ) → (compared t at count).meaning.total < 2 ^ 64
-compared_wraps t at count = omega arith

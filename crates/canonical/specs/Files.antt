@@ -1,12 +1,13 @@
 -- What the spans of a derivation mean, with its rows in the order in which it has them.
 -- Source: E. Dolstra, The Purely Functional Software Deployment Model (2006), section 5.4; the Nix manual, "Derivations".
-use Rattle.std.specs.Prelude.{ℕ, List, map, take}
+use Rattle.std.specs.Prelude.{ℕ, List, map}
 use Rattle.aterm.specs.declared.part.Span.{Span}
 use Rattle.aterm.specs.declared.rows.Placed.{Placed}
 use Rattle.aterm.specs.declared.file.Output.{Output}
 use Rattle.aterm.specs.declared.file.Input.{Input}
 use Rattle.aterm.specs.declared.file.Variable.{Variable}
 use Rattle.aterm.specs.declared.file.Derivation.{Derivation}
+use Rattle.aterm.specs.Tables.{rows_of}
 use Rattle.canonical.specs.Decode.{said}
 use Rattle.canonical.specs.Kinds.{Kind, rising, Value}
 use Rattle.canonical.specs.Meanings.{an_output, an_input, a_variable, a_file, a_derivation}
@@ -22,7 +23,7 @@ abbrev pub output_value : List ℕ → Output → Value an_output
 output_value t v = (said_in t v.name, (said_in t v.path, (said_in t v.algorithm, said_in t v.hash)))
 
 abbrev pub input_value : List ℕ → Input → Value an_input
-input_value t v = (said_in t v.path, values (said_in t) (take v.names.len v.names.items))
+input_value t v = (said_in t v.path, values (said_in t) (rows_of v.names))
 
 abbrev pub variable_value : List ℕ → Variable → Value a_variable
 variable_value t v = (said_in t v.name, said_in t v.value)
@@ -34,10 +35,10 @@ file_value o i e t outputs inputs v environment = (
   (
     inputs,
     (
-      values (said_in t) (take v.sources.len v.sources.items),
+      values (said_in t) (rows_of v.sources),
       (
         said_in t v.system,
-        (said_in t v.builder, (values (said_in t) (take v.arguments.len v.arguments.items), environment)),
+        (said_in t v.builder, (values (said_in t) (rows_of v.arguments), environment)),
       ),
     ),
   ),
@@ -46,7 +47,7 @@ file_value o i e t outputs inputs v environment = (
 abbrev pub derivation_value : List ℕ → Derivation → Value a_derivation
 derivation_value t v =
     file_value (rising 16 an_output) (rising 64 an_input) (rising 128 a_variable) t
-    (values (output_value t) (take v.outputs.len v.outputs.items))
-    (values (input_value t) (take v.inputs.len v.inputs.items))
+    (values (output_value t) (rows_of v.outputs))
+    (values (input_value t) (rows_of v.inputs))
     v
-    (values (variable_value t) (take v.environment.len v.environment.items))
+    (values (variable_value t) (rows_of v.environment))

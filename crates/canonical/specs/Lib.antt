@@ -7,3 +7,4 @@ pub mod Laws
 pub mod Files
 pub mod Canonical
 pub mod Differences
+pub mod Watching

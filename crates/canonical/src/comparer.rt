@@ -5,18 +5,18 @@ ghost use Rattle.aterm.specs.Files.{derivation, whole, in_derivation};
 ghost use Rattle.sink.specs.Write.{steps};
 ghost use Rattle.canonical.specs.Kinds.{Means, Apart};
 ghost use Rattle.canonical.specs.Meanings.{a_derivation, Meaning, canonical};
-ghost use Rattle.canonical.specs.Differences.{FirstDifference, comparing, progress, compared, compared_wraps};
+ghost use Rattle.canonical.specs.Differences.{FirstDifference, comparing, progress};
 
 use crate::file::write_canonical;
+use crate::watcher::{Watch, Watcher};
 use aterm::Derivation;
-use sink::{Full, Sink};
 
+// A text beside what is written.
 #[derive(Clone, Copy)]
-pub struct Comparer<'a> {
+struct Comparison<'a> {
     text: &'a [u8],
     // Where the text goes on while all is the same, or the first place where it is not.
     at: Result<usize, usize>,
-    count: u128,
 }
 
 // After one more byte.
@@ -30,29 +30,15 @@ fn advance(text: &[u8], at: usize, b: u8) -> Result<usize, usize>
     }
 }
 
-// After each byte of a string.
-fn advance_all(text: &[u8], from: Result<usize, usize>, bytes: &[u8]) -> Result<usize, usize>
-    ensures { progress text.now result ≡ steps comparing (progress text.now from) bytes.now }
-{
-    let mut at = from?;
-    for b in bytes {
-        at = advance(text, at, *b)?;
-    }
-    Ok(at)
-}
-
-impl<'a> Sink for Comparer<'a> {
+impl<'a> Watch for Comparison<'a> {
     ghost step = { comparing };
 
-    ghost held = { λ s. compared s.text.now s.at s.count };
+    ghost state = { λ s. progress s.text.now s.at };
 
-    ghost wraps = { λ s. compared_wraps s.text.now s.at s.count };
-
-    fn write(&mut self, bytes: &[u8]) -> Result<(), Full> {
-        let count = self.count.checked_add(bytes.len() as u128).ok_or(Full)?;
-        self.count = count;
-        self.at = advance_all(self.text, self.at, bytes);
-        Ok(())
+    fn after(self, b: u8) -> Comparison<'a> {
+        let text = self.text;
+        let at = self.at.and_then(|at| advance(text, at, b));
+        Comparison { text, at }
     }
 }
 
@@ -70,14 +56,8 @@ fn difference(text: &[u8], at: Result<usize, usize>) -> Option<usize>
 pub fn first_difference(text: &[u8], file: Derivation) -> Option<usize>
     ensures { (at : ℕ) (t : Tree derivation) (m : Meaning) → signs text.now ≡ whole t → in_derivation text.now at file t → Apart a_derivation t → Means a_derivation t m → FirstDifference text.now (canonical m) result }
 {
-    let mut comparer = Comparer {
-        text,
-        at: Ok(0),
-        count: 0,
-    };
-    match write_canonical(text, file, &mut comparer) {
-        Ok(()) => difference(text, comparer.at),
-        // No canonical text is so long.
-        Err(_) => None,
-    }
+    let mut comparer = Watcher::new(Comparison { text, at: Ok(0) });
+    // A watcher refuses only past 2^128 bytes, and no canonical text is so long.
+    write_canonical(text, file, &mut comparer).ok()?;
+    difference(text, comparer.watching.at)
 }

@@ -7,7 +7,7 @@ ghost use Rattle.canonical.specs.Kinds.{canon, Means, Apart, Arranges};
 ghost use Rattle.canonical.specs.Meanings.{an_output, an_input, a_variable, a_file, a_derivation, derive, Meaning, canonical};
 ghost use Rattle.canonical.specs.Files.{said_in, output_value, input_value, variable_value, file_value, derivation_value};
 
-use crate::row::{Canon, write_after};
+use crate::row::{Canon, write_after, write_field};
 use crate::string::compare;
 use aterm::{Derivation, Input, Output, Rows, Span, Variable};
 use sink::{Full, Sink};
@@ -47,8 +47,8 @@ impl Canon for Input {
     fn arranged(self, text: &[u8]) -> Input {
         let sorted_names = self.names.arranged(text);
         Input {
-            path: self.path,
             names: sorted_names,
+            ..self
         }
     }
 
@@ -91,24 +91,9 @@ pub fn sorted(text: &[u8], file: Derivation) -> Derivation
         outputs,
         inputs,
         sources,
-        system: file.system,
-        builder: file.builder,
-        arguments: file.arguments,
         environment,
+        ..file
     }
-}
-
-// A field after the bytes before it: the only place where a field's first byte comes next.
-fn write_field<T: Canon, S: Sink>(
-    text: &[u8],
-    before: &[u8],
-    field: &T,
-    sink: &mut S,
-) -> Result<(), Full>
-    ensures { Writes S.Sink.step (S.Sink.held sink.old) (before.now ++ canon T.Canon.kind (T.Canon.value text.now field.now)) result (S.Sink.held sink.new) }
-{
-    sink.write(before)?;
-    field.write_text(text, sink)
 }
 
 // Writes a derivation's seven fields as they are, with any tables for its outputs, inputs and environment.
@@ -150,6 +135,5 @@ pub fn write_derivation<S: Sink>(text: &[u8], file: &Derivation, sink: &mut S) -
 pub fn write_canonical<S: Sink>(text: &[u8], file: Derivation, sink: &mut S) -> Result<(), Full>
     ensures { (at : ℕ) (t : Tree derivation) (m : Meaning) → in_derivation text.now at file t → Apart a_derivation t → Means a_derivation t m → Writes S.step (S.held sink.old) (canonical m) result (S.held sink.new) }
 {
-    let arranged = sorted(text, file);
-    write_derivation(text, &arranged, sink)
+    write_derivation(text, &sorted(text, file), sink)
 }

@@ -7,6 +7,7 @@ mod laws;
 mod row;
 mod sort;
 mod string;
+mod watcher;
 
 pub use comparer::first_difference;
 pub use file::{sorted, write_canonical, write_derivation, write_fields};
@@ -15,4 +16,5 @@ pub use laws::{
     meaning_exists, meaning_is_unique, needless_escape_is_dropped,
 };
 pub use row::{Canon, write_after, write_rows};
-pub use string::{compare, write_span, write_string};
+pub use string::{compare, compare_bytes, write_span, write_string};
+pub use watcher::{Watch, Watcher};

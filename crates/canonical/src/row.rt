@@ -1,10 +1,10 @@
 // Rows of a derivation: what they mean, their keys, and their canonical text.
-ghost use Rattle.std.specs.Prelude.{◌≡◌, ℕ, ◌≤◌, List, [], ◌∷◌, map, length, take};
+ghost use Rattle.std.specs.Prelude.{◌≡◌, ℕ, List, [], ◌∷◌, ◌++◌, map, length};
 ghost use Rattle.std.specs.List.{flat_map};
 ghost use Rattle.sink.specs.Write.{Writes};
+ghost use Rattle.aterm.specs.Tables.{rows_of};
 ghost use Rattle.canonical.specs.Decode.{said};
-ghost use Rattle.std.specs.List.Sorted.{IsPermutation};
-ghost use Rattle.canonical.specs.Order.{Compared, Level};
+ghost use Rattle.canonical.specs.Order.{Compared};
 ghost use Rattle.canonical.specs.Kinds.{Kind, text as string_kind, rising, Value, key, canon, comma, listing, Arranges};
 
 use crate::sort::sort_rows;
@@ -13,13 +13,16 @@ use aterm::{Placed, Rows, Span};
 use sink::{Full, Sink};
 use std::cmp::Ordering;
 
+// Text and value stay two parameters in this crate: a row's columns are values of their own beside the one text, so a struct of both would
+// be made anew at each of them.
 pub trait Canon: Copy {
     ghost kind: { Kind };
 
     // what a value means beside a text, with its rows in the order in which it has them
     ghost value: { List ℕ → Self → Value kind };
 
-    // The order of two rows, by what their keys mean.
+    // The order of two rows, by what their keys mean. It is no `Ord`, whose `cmp` has no place for the text, and goes by no span, as the
+    // keys in `derivation` are: the key of an input row may be a hash, which stands in no text.
     fn order(&self, text: &[u8], other: &Self) -> Ordering
         ensures { Compared (key kind (value text.now self.now)) (key kind (value text.now other.now)) result };
 
@@ -28,7 +31,7 @@ pub trait Canon: Copy {
         ensures { Arranges kind (value text.now self) (value text.now result) };
 
     // Writes the rows in the order in which the value has them.
-    // Text and sink stay two parameters here and above: they are lent by two owners, and a struct of both would be made anew at each column.
+    // Text and sink stay two parameters: a struct of both would be lent to be changed, and each clause would have to say that its text stays.
     fn write_text<S: Sink>(&self, text: &[u8], sink: &mut S) -> Result<(), Full>
         ensures { Writes S.Sink.step (S.Sink.held sink.old) (canon kind (value text.now self.now)) result (S.Sink.held sink.new) };
 }
@@ -63,14 +66,27 @@ impl<T: Canon> Canon for Placed<T> {
 
     fn arranged(self, text: &[u8]) -> Placed<T> {
         Placed {
-            place: self.place,
             value: self.value.arranged(text),
+            ..self
         }
     }
 
     fn write_text<S: Sink>(&self, text: &[u8], sink: &mut S) -> Result<(), Full> {
         self.value.write_text(text, sink)
     }
+}
+
+// A part of the text after the bytes before it.
+pub fn write_field<T: Canon, S: Sink>(
+    text: &[u8],
+    before: &[u8],
+    field: &T,
+    sink: &mut S,
+) -> Result<(), Full>
+    ensures { Writes S.Sink.step (S.Sink.held sink.old) (before.now ++ canon T.Canon.kind (T.Canon.value text.now field.now)) result (S.Sink.held sink.new) }
+{
+    sink.write(before)?;
+    field.write_text(text, sink)
 }
 
 // A column or a row after the byte before it.
@@ -82,8 +98,7 @@ pub fn write_after<T: Canon, S: Sink>(
 ) -> Result<(), Full>
     ensures { Writes S.Sink.step (S.Sink.held sink.old) (before ∷ canon T.Canon.kind (T.Canon.value text.now part.now)) result (S.Sink.held sink.new) }
 {
-    sink.write(&[before])?;
-    part.write_text(text, sink)
+    write_field(text, &[before], part, sink)
 }
 
 // Rows, each after a comma.
@@ -111,32 +126,20 @@ pub fn write_rows<T: Canon, S: Sink>(text: &[u8], rows: &[T], sink: &mut S) -> R
     }
 }
 
-// Sorts the first rows of an array.
-fn sort_first<T: Canon, const N: usize>(text: &[u8], rows: &mut [T; N], count: usize)
-    requires { count ≤ N }
-    ensures shuffled { IsPermutation (take count rows.old) (take count rows.new) }
-    ensures level { Level (λ v. key T.kind (T.value text.now v)) (take count rows.new) }
-{
-    sort_rows(text, &mut rows[..count]);
-}
-
 impl<T: Canon, const N: usize> Canon for Rows<T, N> {
     ghost kind = { rising N T.Canon.kind };
 
-    ghost value = { λ t v. map (λ p. T.Canon.value t p.value) (take v.len v.items) };
+    ghost value = { λ t v. map (λ p. T.Canon.value t p.value) (rows_of v) };
 
+    // A table has no key.
     fn order(&self, text: &[u8], other: &Rows<T, N>) -> Ordering {
         Ordering::Equal
     }
 
     fn arranged(self, text: &[u8]) -> Rows<T, N> {
-        let arranged = self.map(|row| row.arranged(text));
-        let mut items = arranged.items;
-        sort_first(text, &mut items, arranged.len);
-        Rows {
-            items,
-            len: arranged.len,
-        }
+        let Rows { mut items, len } = self.map(|row| row.arranged(text));
+        sort_rows(text, &mut items[..len]);
+        Rows { items, len }
     }
 
     fn write_text<S: Sink>(&self, text: &[u8], sink: &mut S) -> Result<(), Full> {

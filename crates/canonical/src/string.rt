@@ -10,11 +10,18 @@ use aterm::Span;
 use sink::{Full, Sink};
 use std::cmp::Ordering;
 
-// The byte order of what two strings mean.
+// The byte order of what two strings mean. It is no `Ord` of spans, whose `cmp` has no place for the text that they stand in.
 pub fn compare(text: &[u8], a: Span, b: Span) -> Ordering
     ensures { Compared (said text.now a.start a.«end») (said text.now b.start b.«end») result }
 {
     a.meant(text).cmp(b.meant(text))
+}
+
+// The byte order of two strings, for such as stand in no text.
+pub fn compare_bytes(a: &[u8], b: &[u8]) -> Ordering
+    ensures { Compared a.now b.now result }
+{
+    a.cmp(b)
 }
 
 // A byte of a string, escaped where it has to be.
@@ -31,7 +38,8 @@ fn write_byte<S: Sink>(sink: &mut S, b: u8) -> Result<(), Full>
     }
 }
 
-// The canonical text of a string that means these bytes, whatever they come from.
+// The canonical text of a string that means these bytes, whatever they come from. The two below stand for it outside, where nothing may be
+// asked of an iterator.
 fn write_quoted<I: Iterator<Item = u8> + Drop, S: Sink>(bytes: I, sink: &mut S) -> Result<(), Full>
     requires can { I.Iterator.can_next bytes }
     requires finite { IsFinite (I.Iterator.remaining bytes) }

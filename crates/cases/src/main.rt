@@ -4,10 +4,10 @@
 use listing_text::listing_of;
 use recorder::Recorder;
 use sha256::Sha256;
-use std::io::{BufRead, BufReader};
-use test_input::decode;
+use test_input::{decode, each_line};
 
-fn show(rt: &HostRuntime, name: &str, digits: &str) -> anyhow::Result<()> {
+fn show(rt: &HostRuntime, line: &str) -> anyhow::Result<()> {
+    let (name, digits) = line.split_once(' ').unwrap_or((line, ""));
     let image = decode(rt.alloc(), digits.as_bytes())?;
     let mut digest = Recorder::new(Sha256::new());
     let listing = listing_of(rt.alloc(), &mut digest, &image)?;
@@ -16,15 +16,6 @@ fn show(rt: &HostRuntime, name: &str, digits: &str) -> anyhow::Result<()> {
     Ok(())
 }
 
-fn run(rt: &HostRuntime) -> anyhow::Result<()> {
-    for line in BufReader::new(rt.alloc(), rt.stdin())?.lines(rt.alloc()) {
-        let line = line?;
-        let (name, digits) = line.as_str().split_once(' ').unwrap_or((line.as_str(), ""));
-        show(rt, name, digits)?;
-    }
-    Ok(())
-}
-
 fn main(rt: HostRuntime) -> anyhow::Result<()> {
-    run(&rt)
+    each_line(rt.alloc(), rt.stdin(), |line| show(&rt, line))
 }

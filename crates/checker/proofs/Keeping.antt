@@ -135,7 +135,7 @@ row_right kind set p s before after n d = way d.outcome
     way (with_hash h ss e x m g c l) = record {
       verdict = d.verdict;
       hash = λ k f. subst (λ (a : Hashes). Hashed set (D kind) p a.hash.bytes) (same_hashes s.hashes h k e f) x;
-      masked = λ k f. subst (λ (a : Hashes). MaskedHash set (D kind) p a.masked.bytes) (same_hashes s.hashes h k e f) m;
+      masked = λ k f. subst (λ (a : Hashes). MaskedHash set (D kind) p a.masked) (same_hashes s.hashes h k e f) m;
       without = λ f. absurd (no_hash s.hashes h f e);
     }
     way (without e none c l) = record {

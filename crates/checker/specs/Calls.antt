@@ -1,12 +1,13 @@
 -- What each call answers, and what it leaves of the checker, the sink and the buffer: one relation a call, every refusal included.
 -- Source: this project's own rule (docs/CALLS.md, "Calls").
-use Rattle.std.specs.Prelude.{◌≡◌, ℕ, zero, suc, ◌+◌, ◌<◌, ◌≤◌, ◌⊎◌, List, [], ◌∷◌, ◌++◌, length, drop, replicate, Some, None, Ok, Err, Option, Result, slice_index_or}
+use Rattle.std.specs.Prelude.{◌≡◌, ℕ, zero, suc, ◌+◌, ◌<◌, ◌≤◌, ◌⊎◌, List, [], ◌∷◌, ◌++◌, length, drop, Some, None, Ok, Err, Option, Result, slice_index_or}
 use Rattle.canonical.specs.Meanings.{Meaning, canonical}
 use Rattle.derivation.specs.declared.told.Told.{Told}
 use Rattle.hash_modulo.specs.Hashes.{Digest, Fixed, Hashed}
 use Rattle.hash_modulo.specs.Paths.{References, MaskedString}
 use Rattle.hash_modulo.specs.Sets.{Bytes, Files, Means, Readable, Rests, Hashable}
 use Rattle.hash_modulo.specs.Strings.{own_strings, fixed_strings, output_string, all_lengths, InputsHashed, Digested, no_output, RightPath}
+use Rattle.hash_rows.specs.declared.hash.Hash.{Hash}
 use Rattle.report.specs.Texts.{line_text, tail_text}
 use Rattle.right_paths.specs.Worked.{HoldsLast}
 use Rattle.sink.specs.Digest.{digest}
@@ -68,18 +69,18 @@ Takes v (Err e) w = TakeRefused v e × (w ≡ v)
 abbrev pub VisitRefused : View → ℕ → CallRefusal → Type 0
 VisitRefused v k = Ask (Open v) NotOpened (Ask (TakenAt v k) NotTaken Done)
 
--- x is the masked hash of the file at p, or 32 zeros where that is fixed
-pub record MaskedHash (set : Files) (d : Digest) (p x : Bytes) : Type 0 where
+-- x is the masked hash of the file at p, or none where that is fixed
+pub record MaskedHash (set : Files) (d : Digest) (p : Bytes) (x : Option Hash) : Type 0 where
   pub meaning : Meaning
   pub means : Means set p meaning
   pub hashes : Bytes → Bytes
   pub inputs : InputsHashed set d meaning hashes
-  pub masked : (Fixed meaning → ⊥) → (t : Bytes) × MaskedString hashes meaning t × (x ≡ d t)
-  pub blank : Fixed meaning → x ≡ replicate 32 0
+  pub masked : (Fixed meaning → ⊥) → (t : Bytes) × MaskedString hashes meaning t × (h : Hash) × (x ≡ Some h) × (h.bytes ≡ d t)
+  pub none : Fixed meaning → x ≡ None
 
 -- the hashes that a settle keeps, how many bytes it digests, and what it leaves of the sink
 pub data Outcome (kind : Kind) (set : Files) (p : Bytes) (before : sinks.Meaning) (n : ℕ) (after : sinks.Meaning) : Option Hashes → Type 0 where
-  with_hash : {o : Option Hashes} (h : Hashes) (ss : List Bytes) → o ≡ Some h → Hashed set (D kind) p h.hash.bytes → MaskedHash set (D kind) p h.masked.bytes
+  with_hash : {o : Option Hashes} (h : Hashes) (ss : List Bytes) → o ≡ Some h → Hashed set (D kind) p h.hash.bytes → MaskedHash set (D kind) p h.masked
       → Digested set (D kind) p ss → n ≡ all_lengths ss → Holds kind before ss after → Outcome kind set p before n after o
   without : {o : Option Hashes} → o ≡ None → (Hashable set p → ⊥) → n ≡ 0 → after ≡ before → Outcome kind set p before n after o
 

@@ -15,7 +15,7 @@ use Rattle.checker.specs.declared.state.State.TheVariants.{Settled}
 pub record RowRight (kind : Kind) (set : Files) (p : Bytes) (s : Settlement) : Type 0 where
   pub verdict : Judged set (D kind) p s.verdict
   pub hash : (h : Hashes) → s.hashes ≡ Some h → Hashed set (D kind) p h.hash.bytes
-  pub masked : (h : Hashes) → s.hashes ≡ Some h → MaskedHash set (D kind) p h.masked.bytes
+  pub masked : (h : Hashes) → s.hashes ≡ Some h → MaskedHash set (D kind) p h.masked
   pub without : s.hashes ≡ None → Hashable set p → ⊥
 
 -- pending or taken

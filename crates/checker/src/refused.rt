@@ -26,6 +26,7 @@ pub enum CallRefusal {
 }
 
 impl CallRefusal {
+    // The number by which docs/CALLS.md tells the refusal.
     pub fn number(self) -> u8
         ensures { result ≡ call_number self }
     {

@@ -25,22 +25,18 @@ pub enum Standing {
 fn standing_of(link: Option<Link>, states: &States) -> Standing
     ensures { result ≡ standing_in (row_at states.now) link }
 {
-    let Some(link) = link else {
-        return Standing::Absent;
-    };
-    if !link.owned {
-        return Standing::Unowned;
-    }
-    match states.get(link.file as usize) {
-        State::Settled(settlement) => match settlement.hashes {
-            Some(_) => Standing::Hashed,
-            None => Standing::Unhashed,
+    match link {
+        None => Standing::Absent,
+        Some(link) if !link.owned => Standing::Unowned,
+        Some(link) => match states.get(usize::from(link.file)) {
+            State::Settled(settlement) if settlement.hashes.is_some() => Standing::Hashed,
+            State::Settled(_) => Standing::Unhashed,
+            State::Pending | State::Taken => Standing::Waiting,
         },
-        _ => Standing::Waiting,
     }
 }
 
-// The first row, counted from 0, whose file stands so.
+// The first row, counted from 0, whose file stands so. Asked for by one of the five and not by a closure, which could only compare with it.
 pub fn first_link(links: &Links, states: &States, wanted: Standing) -> Option<usize>
     ensures { FirstLink (row_at states.now) links.now wanted result }
 {

@@ -2,11 +2,11 @@
 use hash_rows::Hash;
 use verdict::Fault;
 
-// The hashes of a file that has them; the masked hash of a fixed file is 32 zeros.
+// The hashes of a file that has them; a fixed file has no masked hash.
 #[derive(Clone, Copy)]
 pub struct Hashes {
     pub hash: Hash,
-    pub masked: Hash,
+    pub masked: Option<Hash>,
 }
 
 // What settling a file decides: its verdict, and its hashes where it has them.

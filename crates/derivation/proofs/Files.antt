@@ -1,6 +1,6 @@
 -- From the rows of one list to all that a question is put to.
 use Rattle.std.proofs.Common.{◌≡◌, List, [], ◌∷◌, ◌++◌, Some, None, Option, sym, refl, ap, ◌∙◌, subst, append_assoc}
-use Rattle.std.specs.Option.{option_or}
+use Rattle.std.specs.Option.{MatchOption}
 use Rattle.std.specs.List.{AllByRecursion}
 use Rattle.std.proofs.ByRecursion.{All-append, All-weaker}
 use Rattle.aterm.specs.Grammar.{Tree}
@@ -89,14 +89,10 @@ module _ (Yes : Entry → Type 0) where
   first_front ps qs None g b = All-append (λ e. Yes e.1) ps qs g b
   first_front ps qs (Some w) g b = first_here ps qs w g
 
-  -- one part of a list after another
-  pub first_or : (ps qs : List (Spot × Entry)) (r s : Option Spot) → First Yes ps r → First Yes qs s → First Yes (ps ++ qs) (option_or r s)
-  first_or ps qs None s f g = first_then ps qs s f g
-  first_or ps qs (Some w) s f g = first_here ps qs w f
-
-or_assoc : {T : Type 0} (a b c : Option T) → option_or (option_or a b) c ≡ option_or a (option_or b c)
-or_assoc None b c = refl
-or_assoc (Some x) b c = refl
+  -- a second part of a list is asked only where the first has no answer
+  pub first_else : (ps qs : List (Spot × Entry)) (a r : Option Spot) (P : Type 0) → First Yes ps a → MatchOption a P (λ w. r ≡ Some w) → (P → First Yes qs r) → First Yes (ps ++ qs) r
+  first_else ps qs None r P f p g = first_then ps qs r f (g p)
+  first_else ps qs (Some w) r P f e g = subst (First Yes (ps ++ qs)) (sym e) (first_here ps qs w f)
 
 abbrev pub one : Tree derivation → Spot × Entry
 one x = (record { field = Outputs; row = 0; place = 0 }, all_outputs x.0)
@@ -138,21 +134,25 @@ module _ (x : Tree derivation) where
       (All-append (λ e. Yes e.1) ins (srcs ++ vars) (all_free Yes input_row b (input_rows x)) (All-append (λ e. Yes e.1) srcs vars (all_free Yes source_row c (source_rows x)) (all_free Yes variable_row d (variable_rows x)))) f
 
   -- a question to each list, one after another
-  pub by_lists : (Yes : Entry → Type 0) → Yes (all_outputs x.0) → (o i s v : Option Spot) → First (λ e. Yes (output_row e)) (output_rows x) o → First (λ e. Yes (input_row e)) (input_rows x) i → First (λ e. Yes (source_row e)) (source_rows x) s → First (λ e. Yes (variable_row e)) (variable_rows x) v
-      → First Yes (entries x) (option_or (option_or (option_or o i) s) v)
-  by_lists Yes top o i s v a b c d =
-      subst (First Yes (entries x)) (sym (ap (λ r. option_or r v) (or_assoc o i s) ∙ or_assoc o (option_or i s) v ∙ ap (option_or o) (or_assoc i s v)))
-      (first_then Yes (one x ∷ []) (outs ++ (ins ++ (srcs ++ vars))) (option_or o (option_or i (option_or s v))) (top, tt)
-      (first_or Yes outs (ins ++ (srcs ++ vars)) o (option_or i (option_or s v)) (first_tagged Yes output_row (output_rows x) o a)
-      (first_or Yes ins (srcs ++ vars) i (option_or s v) (first_tagged Yes input_row (input_rows x) i b)
-      (first_or Yes srcs vars s v (first_tagged Yes source_row (source_rows x) s c) (first_tagged Yes variable_row (variable_rows x) v d)))))
+  pub by_lists : (Yes : Entry → Type 0) → Yes (all_outputs x.0) → (o i s v : Option Spot) (I S V : Type 0) → First (λ e. Yes (output_row e)) (output_rows x) o
+      → MatchOption o I (λ w. i ≡ Some w) → (I → First (λ e. Yes (input_row e)) (input_rows x) i) → MatchOption i S (λ w. s ≡ Some w) → (S → First (λ e. Yes (source_row e)) (source_rows x) s)
+      → MatchOption s V (λ w. v ≡ Some w) → (V → First (λ e. Yes (variable_row e)) (variable_rows x) v) → First Yes (entries x) v
+  by_lists Yes top o i s v I S V a p b q c m d =
+      subst (λ l. First Yes (one x ∷ l) v) (append_assoc (outs ++ ins) srcs vars ∙ append_assoc outs ins (srcs ++ vars))
+      (first_then Yes (one x ∷ []) (((outs ++ ins) ++ srcs) ++ vars) v (top, tt)
+      (first_else Yes ((outs ++ ins) ++ srcs) vars s v V
+      (first_else Yes (outs ++ ins) srcs i s S
+      (first_else Yes outs ins o i I (first_tagged Yes output_row (output_rows x) o a) p (λ z. first_tagged Yes input_row (input_rows x) i (b z)))
+      q (λ z. first_tagged Yes source_row (source_rows x) s (c z)))
+      m (λ z. first_tagged Yes variable_row (variable_rows x) v (d z))))
 
   -- a question that the environment is not asked
-  pub by_files : (Yes : Entry → Type 0) → Yes (all_outputs x.0) → ((e : _) → Yes (variable_row e)) → (o i s : Option Spot) → First (λ e. Yes (output_row e)) (output_rows x) o → First (λ e. Yes (input_row e)) (input_rows x) i → First (λ e. Yes (source_row e)) (source_rows x) s
-      → First Yes (entries x) (option_or (option_or o i) s)
-  by_files Yes top free o i s a b c =
-      subst (First Yes (entries x)) (sym (or_assoc o i s))
-      (first_then Yes (one x ∷ []) (outs ++ (ins ++ (srcs ++ vars))) (option_or o (option_or i s)) (top, tt)
-      (first_or Yes outs (ins ++ (srcs ++ vars)) o (option_or i s) (first_tagged Yes output_row (output_rows x) o a)
-      (first_or Yes ins (srcs ++ vars) i s (first_tagged Yes input_row (input_rows x) i b)
-      (first_front Yes srcs vars s (first_tagged Yes source_row (source_rows x) s c) (all_free Yes variable_row free (variable_rows x))))))
+  pub by_files : (Yes : Entry → Type 0) → Yes (all_outputs x.0) → ((e : _) → Yes (variable_row e)) → (o i s : Option Spot) (I S : Type 0) → First (λ e. Yes (output_row e)) (output_rows x) o
+      → MatchOption o I (λ w. i ≡ Some w) → (I → First (λ e. Yes (input_row e)) (input_rows x) i) → MatchOption i S (λ w. s ≡ Some w) → (S → First (λ e. Yes (source_row e)) (source_rows x) s)
+      → First Yes (entries x) s
+  by_files Yes top free o i s I S a p b q c =
+      subst (λ l. First Yes (one x ∷ l) s) (append_assoc outs ins (srcs ++ vars))
+      (first_then Yes (one x ∷ []) ((outs ++ ins) ++ (srcs ++ vars)) s (top, tt)
+      (first_else Yes (outs ++ ins) (srcs ++ vars) i s S
+      (first_else Yes outs ins o i I (first_tagged Yes output_row (output_rows x) o a) p (λ z. first_tagged Yes input_row (input_rows x) i (b z)))
+      q (λ z. first_front Yes srcs vars s (first_tagged Yes source_row (source_rows x) s (c z)) (all_free Yes variable_row free (variable_rows x)))))

@@ -1,11 +1,11 @@
 -- One fault at most.
-use Rattle.std.proofs.Common.{◌≡◌, ℕ, ◌<◌, cond, eqb, List, [], ◌∷◌, ◌++◌, Some, None, sym, refl, ap, ◌∙◌, subst, ⊎_elim, arith, lit<}
+use Rattle.std.proofs.Common.{◌≡◌, ℕ, ◌<◌, cond, eqb, List, [], ◌∷◌, ◌++◌, Some, None, sym, refl, ap, ◌∙◌, subst, ⊎_elim, arith}
 use Rattle.std.specs.List.{AllByRecursion}
 use Rattle.std.proofs.str.Laws.{order}
 use Rattle.aterm.specs.declared.fault.Fault.{Fault as TextFault}
 use Rattle.aterm.specs.declared.file.Derivation.{Derivation}
 use Rattle.aterm.specs.Grammar.{Tree}
-use Rattle.aterm.specs.Files.{derivation, IsFault, Reading}
+use Rattle.aterm.specs.Files.{derivation, in_derivation, IsFault, Reading}
 use Rattle.derivation.specs.declared.spot.Spot.{Spot}
 use Rattle.derivation.specs.declared.question.Question.{Question}
 use Rattle.derivation.specs.declared.question.Question.TheVariants.{Present, Formed, Different, Fixed, Short}
@@ -44,6 +44,50 @@ asked_number Short = refl
 same_number : (p q : Question) → number p ≡ number q → p ≡ q
 same_number p q e = sym (asked_number p) ∙ ap asked e ∙ asked_number q
 
+-- what is so of each question before one is so of those before it
+module _ (Clear : Question → Type 0) where
+  pub below_13 : (p : Question) → number p < 13 → Clear p
+  below_13 Present h = absurd (omega arith)
+  below_13 Formed h = absurd (omega arith)
+  below_13 Different h = absurd (omega arith)
+  below_13 Fixed h = absurd (omega arith)
+  below_13 Short h = absurd (omega arith)
+
+  pub below_14 : Clear Present → (p : Question) → number p < 14 → Clear p
+  below_14 a Present h = a
+  below_14 a Formed h = absurd (omega arith)
+  below_14 a Different h = absurd (omega arith)
+  below_14 a Fixed h = absurd (omega arith)
+  below_14 a Short h = absurd (omega arith)
+
+  pub below_15 : Clear Present → Clear Formed → (p : Question) → number p < 15 → Clear p
+  below_15 a b Present h = a
+  below_15 a b Formed h = b
+  below_15 a b Different h = absurd (omega arith)
+  below_15 a b Fixed h = absurd (omega arith)
+  below_15 a b Short h = absurd (omega arith)
+
+  pub below_16 : Clear Present → Clear Formed → Clear Different → (p : Question) → number p < 16 → Clear p
+  below_16 a b c Present h = a
+  below_16 a b c Formed h = b
+  below_16 a b c Different h = c
+  below_16 a b c Fixed h = absurd (omega arith)
+  below_16 a b c Short h = absurd (omega arith)
+
+  pub below_17 : Clear Present → Clear Formed → Clear Different → Clear Fixed → (p : Question) → number p < 17 → Clear p
+  below_17 a b c d Present h = a
+  below_17 a b c d Formed h = b
+  below_17 a b c d Different h = c
+  below_17 a b c d Fixed h = d
+  below_17 a b c d Short h = absurd (omega arith)
+
+  pub every_question : Clear Present → Clear Formed → Clear Different → Clear Fixed → Clear Short → (p : Question) → Clear p
+  every_question a b c d e Present = a
+  every_question a b c d e Formed = b
+  every_question a b c d e Different = c
+  every_question a b c d e Fixed = d
+  every_question a b c d e Short = e
+
 module _ (path text : List ℕ) where
   pub one_refusal : (p q : Question) (w v : Spot) (a : Refused path text p w) (b : Refused path text q v) → b.tree ≡ a.tree → Row q v ≡ Row p w
   one_refusal p q w v a b t =
@@ -67,6 +111,10 @@ module _ (path text : List ℕ) where
       other (Text g) h = ap Text (only g h)
       other (Row q w) h = absurd (st.stops (h.tree, st.after, sym h.written ∙ st.whole))
 
+  -- a question is answered yes of the tree that the file holds
+  abbrev pub Said : Derivation → Question → Type 0
+  Said d q = (x : Tree derivation) → in_derivation text 7 d x → Answer path x q None
+
   module _ (d : Derivation) (r : Reading text d) (reads : (g : TextFault) → IsFault text g → ⊥) where
     pub row_refused : (q : Question) (w : Spot) → ((p : Question) → number p < number q → Answer path r.tree p None) → Answer path r.tree q (Some w) → IsFileFault path text (Row q w) × ((g : FileFault) → IsFileFault path text g → g ≡ Row q w)
     row_refused q w passed found = (this, other)
@@ -78,30 +126,18 @@ module _ (path text : List ℕ) where
         other (Text g) h = absurd (reads g h)
         other (Row p v) h = one_refusal q p w v this h (r.only h.tree h.written)
 
-    pub by_refusal : (q : Question) (f : FileFault) → RefusedBy q path text d f → ((p : Question) → number p < number q → Answer path r.tree p None) → IsFileFault path text f × ((g : FileFault) → IsFileFault path text g → g ≡ f)
-    by_refusal q (Text f) h passed = absurd h
-    by_refusal q (Row p w) h passed =
+    pub by_refusal : (q : Question) (f : FileFault) → RefusedBy q path text d f → ((p : Question) → number p < number q → Said d p) → IsFileFault path text f × ((g : FileFault) → IsFileFault path text g → g ≡ f)
+    by_refusal q (Text f) h said = absurd h
+    by_refusal q (Row p w) h said =
         subst (λ z. IsFileFault path text (Row z w) × ((g : FileFault) → IsFileFault path text g → g ≡ Row z w)) (sym h.0)
-        (row_refused q w passed (h.1 r.tree r.held))
+        (row_refused q w (λ p l. said p l r.tree r.held) (h.1 r.tree r.held))
 
-    pub accepted : ((p : Question) → Answer path r.tree p None) → Accepted path text d
-    accepted passed = record { reading = r; passed = passed; plain = plain_fields r.tree (passed Formed); clear = clear }
+    pub accepted : ((p : Question) → Said d p) → Accepted path text d
+    accepted said = record { reading = r; passed = passed; plain = plain_fields r.tree (passed Formed); clear = clear }
       where
+        passed : (p : Question) → Answer path r.tree p None
+        passed p = said p r.tree r.held
+
         clear : (g : FileFault) → IsFileFault path text g → ⊥
         clear (Text g) h = reads g h
         clear (Row p v) h = not_both (Yes p path r.tree.0) (entries r.tree) v (subst (λ x. Answer path x p (Some v)) (r.only h.tree h.written) h.found) (passed p)
-
-  -- the questions before the n-th are answered
-  pub up_to : (x : Tree derivation) (n : ℕ) → (13 < n → Answer path x Present None) → (14 < n → Answer path x Formed None) → (15 < n → Answer path x Different None) → (16 < n → Answer path x Fixed None) → (17 < n → Answer path x Short None) → (p : Question) → number p < n → Answer path x p None
-  up_to x n a b c d e Present h = a h
-  up_to x n a b c d e Formed h = b h
-  up_to x n a b c d e Different h = c h
-  up_to x n a b c d e Fixed h = d h
-  up_to x n a b c d e Short h = e h
-
-pub below : (q : Question) → number q < 18
-below Present = lit< tt
-below Formed = lit< tt
-below Different = lit< tt
-below Fixed = lit< tt
-below Short = lit< tt

@@ -12,16 +12,16 @@ use Rattle.aterm.proofs.Runs.{eq_decides}
 use Rattle.derivation.specs.Questions.{Plain}
 
 -- a string's span gives what the string means
-span_meaning : (text : List ℕ) (p : ℕ) (v : Span) (cs : List Char) (it : Meant) → it.rest.now ≡ cut text v.start v.end → Spans text p v.start v.end cs → meant_left it ≡ meaning cs
+pub span_meaning : (text : List ℕ) (p : ℕ) (v : Span) (cs : List Char) (it : Meant) → it.rest.now ≡ cut text v.start v.end → Spans text p v.start v.end cs → meant_left it ≡ meaning cs
 span_meaning text p v cs it e s = ap (meant false) (e ∙ s.cut) ∙ meant_raw cs
 
--- whether two strings of a text mean the same
-pub keys_decide : (text : List ℕ) (p q : ℕ) (v w : Span) (cs ds : List Char) (one other : Meant) → one.rest.now ≡ cut text v.start v.end → other.rest.now ≡ cut text w.start w.end → Spans text p v.start v.end cs → Spans text q w.start w.end ds
-    → (r : Bool) → ComparesItemsByEq (YieldsFirst meant_left) (λ (s t : Meant). t ≡ s) (YieldsFirst meant_left) one other nat_eq r → Decides r (meaning cs ≡ meaning ds)
-keys_decide text p q v w cs ds one other e f s t r ran =
-    eq_decides (YieldsFirst meant_left) (λ (s t : Meant). t ≡ s) (YieldsFirst meant_left) one other (meaning cs) (meaning ds)
+-- whether a string of a text means what another gives
+pub key_decides : (text : List ℕ) (p : ℕ) (v : Span) (cs : List Char) (one other : Meant) → one.rest.now ≡ cut text v.start v.end → Spans text p v.start v.end cs
+    → (r : Bool) → ComparesItemsByEq (YieldsFirst meant_left) (λ (s t : Meant). t ≡ s) (YieldsFirst meant_left) one other nat_eq r → Decides r (meaning cs ≡ meant_left other)
+key_decides text p v cs one other e s r ran =
+    eq_decides (YieldsFirst meant_left) (λ (s t : Meant). t ≡ s) (YieldsFirst meant_left) one other (meaning cs) (meant_left other)
     (YieldsList-from_first (λ x. x) meant_left (meaning cs) (span_meaning text p v cs one e s))
-    (λ it i. YieldsList-from_first (λ x. x) meant_left (meaning ds) (ap meant_left i ∙ span_meaning text q w ds other f t))
+    (λ it i. YieldsList-from_first (λ x. x) meant_left (meant_left other) (ap meant_left i))
     r ran
 
 -- a string without backslash means the bytes that stand there

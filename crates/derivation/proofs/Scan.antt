@@ -1,6 +1,9 @@
 -- The turns of a scan, and that it has one answer.
 use Rattle.std.proofs.Common.{◌≡◌, ℕ, zero, suc, ◌+◌, ◌<◌, ◌≤◌, not, List, [], ◌∷◌, ◌++◌, length, get_or, take, is_some, Some, None, Decides, Option, sym, refl, ap, ◌∙◌, subst, append_assoc, append-nil, arith, take_all}
-use Rattle.std.specs.List.{AllByRecursion}
+use Rattle.std.specs.Borrow.{Bor}
+use Rattle.std.specs.Option.{MatchOption, option_map}
+use Rattle.std.specs.List.{AllByRecursion, AllWithin, HoldsAt, enumerate_from}
+use Rattle.std.proofs.lemmas.List.FromFn.{length-enumerate_from, get_or-enumerate_from}
 use Rattle.std.proofs.ByRecursion.{All-append}
 use Rattle.aterm.specs.Grammar.{Shape, Tree}
 use Rattle.aterm.specs.Reads.{Each, past}
@@ -59,6 +62,12 @@ module _ {V : Type 0} (s : Shape) (H : ℕ → V → Tree s → Type 0) where
         held = r.held;
       }
 
+  -- the row at a place of a list
+  pub one_at : (vs : List (Placed V)) (i : ℕ) → i < length vs → (v : Placed V) × (v ≡ get_or vs i v)
+  one_at [] i h = absurd (omega arith)
+  one_at (v ∷ vs) zero h = (v, refl)
+  one_at (v ∷ vs) (suc i) h = one_at vs i (omega arith)
+
   pub each_length : (from : ℕ) (vs : List (Placed V)) (xs : List (Tree s)) → Each s H from vs xs → length vs ≡ length xs
   each_length from [] [] a = refl
   each_length from [] (x ∷ xs) a = absurd a
@@ -92,6 +101,43 @@ module _ {V : Type 0} (s : Shape) (H : ℕ → V → Tree s → Type 0) where
 
     pub clean_all : (from : ℕ) (vs : List (Placed V)) (xs : List (Tree s)) (i : ℕ) → length vs ≤ i → Each s H from vs xs → Clean from (take i xs) → Clean from xs
     clean_all from vs xs i h a c = subst (Clean from) (take_all i xs (omega (arith, each_length from vs xs a))) c
+
+-- the first row of which the answer is no, as a search gives it with its number
+module _ {V : Type 0} (s : Shape) (H : ℕ → V → Tree s → Type 0) (Yes : List (Tree s) → Tree s → Type 0) (field : Field) (vs : List (Placed V)) where
+  abbrev pub Passed : ℕ × Placed V → Type 0
+  Passed p = (from : ℕ) (ys : List (Tree s)) (at : ℕ) (x : Tree s) → Each s H from (take p.0 vs) ys → H at p.1.value x → Yes ys x
+
+  abbrev pub Failed : ℕ × Placed V → Type 0
+  Failed p = (from : ℕ) (ys : List (Tree s)) (at : ℕ) (x : Tree s) → Each s H from (take p.0 vs) ys → H at p.1.value x → Yes ys x → ⊥
+
+  module _ (from : ℕ) (xs : List (Tree s)) (a : Each s H from vs xs) where
+    numbered : (i : ℕ) → i < length vs → (v : Placed V) → v ≡ get_or vs i v → get_or (enumerate_from 0 vs) i (0, v) ≡ (i, v)
+    numbered i h v e =
+        let z : 0 + i ≡ i = omega arith in
+        get_or-enumerate_from 0 vs i (0, v) h ∙ ap (λ k. (k, get_or vs i v)) z ∙ ap (λ w. (i, w)) (sym e)
+
+    clean_to : (n : ℕ) → n ≤ length vs → AllWithin Passed (enumerate_from 0 vs) 0 n → Clean s H Yes field from (take n xs)
+    clean_to zero h p = tt
+    clean_to (suc n) h p =
+        let v = one_at s H vs n (omega arith) in
+        let r = split s H from vs xs n (omega arith) v.0 v.1 a in
+        let passed = subst Passed (numbered n (omega arith) v.0 v.1) (p n (0, v.0) (omega arith) (omega arith)) in
+        clean_more s H Yes field from vs xs n v.0 r (clean_to n (omega arith) (λ k d b l. p k d b (omega arith))) (passed from (take n xs) (ends s from (take n xs) + 1) r.x r.front r.held)
+
+    pub first_found : (r : Option (ℕ × Bor (Placed V)))
+        → MatchOption r (AllWithin Passed (enumerate_from 0 vs) 0 (length (enumerate_from 0 vs))) (λ x. Failed (x.0, x.1.now) × (i : ℕ) × (i < length (enumerate_from 0 vs)) × HoldsAt (λ y. y ≡ (x.0, x.1.now)) (enumerate_from 0 vs) i × AllWithin Passed (enumerate_from 0 vs) 0 i)
+        → First (λ e. Yes e.0 e.1) (rows_at s field from [] xs) (option_map (λ p. record { field = field; row = p.0 + 1; place = p.1.now.place }) r)
+    first_found None p =
+        let long = length-enumerate_from 0 vs in
+        clean_all s H Yes field from vs xs (length vs) (omega arith) a (clean_to (length vs) (omega arith) (λ k d b l. p k d b (omega arith)))
+    first_found (Some x) (failed, i, h, here, p) =
+        let long = length-enumerate_from 0 vs in
+        let l : i < length vs = omega arith in
+        let v = one_at s H vs i l in
+        let same : (i, v.0) ≡ (x.0, x.1.now) = sym (numbered i l v.0 v.1) ∙ here (0, v.0) in
+        let r = split s H from vs xs i l v.0 v.1 a in
+        subst (λ (q : ℕ × Placed V). FirstNo (λ e. Yes e.0 e.1) (rows_at s field from [] xs) (record { field = field; row = q.0 + 1; place = q.1.place })) same
+        (found s H Yes field from vs xs i v.0 r (clean_to i (omega arith) p) (subst Failed (sym same) failed from (take i xs) (ends s from (take i xs) + 1) r.x r.front r.held))
 
 -- a no stands against a yes of every row
 pub never_all : {E : Type 0} (Yes : E → Type 0) (before after : List (Spot × E)) (w : Spot) (e : E) → (Yes e → ⊥) → AllByRecursion (λ r. Yes r.1) (before ++ (w, e) ∷ after) → ⊥

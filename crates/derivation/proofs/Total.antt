@@ -12,6 +12,7 @@ use Rattle.derivation.specs.Asked.{First, Throughout}
 use Rattle.derivation.specs.Questions.{Entry, all_outputs, output_row, input_row, source_row, variable_row, entries, present, Plain, formed_output, formed_name, formed_input, formed, fresh, different, Kind, md5, sha1, sha256, sha512, spelt, digits, hex, GivenAs, hashed, FixedFile, settled, output_name, short, Yes, number}
 use Rattle.derivation.specs.Judgement.{Answer}
 use Rattle.derivation.specs.Total.{EveryTree}
+use Rattle.derivation.proofs.Judging.{below_13, below_14, below_15, below_16, below_17, every_question}
 
 either : {P Q : Type 0} → Known P → Known Q → Known (P ⊎ Q)
 either (inl p) q = inl (inl p)
@@ -164,55 +165,13 @@ module _ (path : List ℕ) (x : Tree derivation) where
   answered : (q : Question) → Clear q ⊎ Stops q
   answered q = first (Yes q path x.0) (known q path x.0) (entries x)
 
-  below_13 : (p : Question) → number p < 13 → Clear p
-  below_13 Present h = absurd (omega arith)
-  below_13 Formed h = absurd (omega arith)
-  below_13 Different h = absurd (omega arith)
-  below_13 Fixed h = absurd (omega arith)
-  below_13 Short h = absurd (omega arith)
-
-  below_14 : Clear Present → (p : Question) → number p < 14 → Clear p
-  below_14 a Present h = a
-  below_14 a Formed h = absurd (omega arith)
-  below_14 a Different h = absurd (omega arith)
-  below_14 a Fixed h = absurd (omega arith)
-  below_14 a Short h = absurd (omega arith)
-
-  below_15 : Clear Present → Clear Formed → (p : Question) → number p < 15 → Clear p
-  below_15 a b Present h = a
-  below_15 a b Formed h = b
-  below_15 a b Different h = absurd (omega arith)
-  below_15 a b Fixed h = absurd (omega arith)
-  below_15 a b Short h = absurd (omega arith)
-
-  below_16 : Clear Present → Clear Formed → Clear Different → (p : Question) → number p < 16 → Clear p
-  below_16 a b c Present h = a
-  below_16 a b c Formed h = b
-  below_16 a b c Different h = c
-  below_16 a b c Fixed h = absurd (omega arith)
-  below_16 a b c Short h = absurd (omega arith)
-
-  below_17 : Clear Present → Clear Formed → Clear Different → Clear Fixed → (p : Question) → number p < 17 → Clear p
-  below_17 a b c d Present h = a
-  below_17 a b c d Formed h = b
-  below_17 a b c d Different h = c
-  below_17 a b c d Fixed h = d
-  below_17 a b c d Short h = absurd (omega arith)
-
-  every_question : Clear Present → Clear Formed → Clear Different → Clear Fixed → Clear Short → (p : Question) → Clear p
-  every_question a b c d e Present = a
-  every_question a b c d e Formed = b
-  every_question a b c d e Different = c
-  every_question a b c d e Fixed = d
-  every_question a b c d e Short = e
-
   in_order : Clear Present ⊎ Stops Present → Clear Formed ⊎ Stops Formed → Clear Different ⊎ Stops Different → Clear Fixed ⊎ Stops Fixed → Clear Short ⊎ Stops Short → ((q : Question) → Clear q) ⊎ ((q : Question) × (w : Spot) × ((p : Question) → number p < number q → Clear p) × Answer path x q (Some w))
-  in_order (inr s) b c d e = inr (Present, s.0, below_13, s.1)
-  in_order (inl a) (inr s) c d e = inr (Formed, s.0, below_14 a, s.1)
-  in_order (inl a) (inl b) (inr s) d e = inr (Different, s.0, below_15 a b, s.1)
-  in_order (inl a) (inl b) (inl c) (inr s) e = inr (Fixed, s.0, below_16 a b c, s.1)
-  in_order (inl a) (inl b) (inl c) (inl d) (inr s) = inr (Short, s.0, below_17 a b c d, s.1)
-  in_order (inl a) (inl b) (inl c) (inl d) (inl e) = inl (every_question a b c d e)
+  in_order (inr s) b c d e = inr (Present, s.0, below_13 Clear, s.1)
+  in_order (inl a) (inr s) c d e = inr (Formed, s.0, below_14 Clear a, s.1)
+  in_order (inl a) (inl b) (inr s) d e = inr (Different, s.0, below_15 Clear a b, s.1)
+  in_order (inl a) (inl b) (inl c) (inr s) e = inr (Fixed, s.0, below_16 Clear a b c, s.1)
+  in_order (inl a) (inl b) (inl c) (inl d) (inr s) = inr (Short, s.0, below_17 Clear a b c d, s.1)
+  in_order (inl a) (inl b) (inl c) (inl d) (inl e) = inl (every_question Clear a b c d e)
 
 pub every_tree : EveryTree
 every_tree path x = in_order path x (answered path x Present) (answered path x Formed) (answered path x Different) (answered path x Fixed) (answered path x Short)

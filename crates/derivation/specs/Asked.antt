@@ -3,11 +3,29 @@
 use Rattle.std.specs.Prelude.{◌≡◌, ℕ, ◌+◌, Bool, List, [], ◌∷◌, ◌++◌, length, Some, None, Decides, Option, option_map}
 use Rattle.std.specs.Borrow.{Bor}
 use Rattle.std.specs.List.{AllByRecursion}
-use Rattle.aterm.specs.Grammar.{Shape, Tree}
+use Rattle.aterm.specs.declared.part.Span.{Span}
+use Rattle.aterm.specs.declared.file.Output.{Output}
+use Rattle.aterm.specs.declared.file.Input.{Input}
+use Rattle.aterm.specs.Grammar.{Shape, string, Tree}
+use Rattle.aterm.specs.Files.{output, input, in_output, in_input, span}
 use Rattle.aterm.specs.Reads.{Each, past}
 use Rattle.aterm.specs.declared.rows.Placed.{Placed}
 use Rattle.derivation.specs.declared.field.Field.{Field}
 use Rattle.derivation.specs.declared.spot.Spot.{Spot}
+
+-- the shape of rows, and what a row holds of a text
+pub record Holding (V : Type 0) : Type 1 where
+  pub shape : Shape
+  pub holds : List ℕ → ℕ → V → Tree shape → Type 0
+
+abbrev pub of_outputs : Holding Output
+of_outputs = record { shape = output; holds = in_output }
+
+abbrev pub of_inputs : Holding Input
+of_inputs = record { shape = input; holds = in_input }
+
+abbrev pub of_strings : Holding Span
+of_strings = record { shape = string; holds = λ text at v cs. span text v at cs }
 
 -- Of the rows, each with where it stands, the first of which the answer is no stands at `w`.
 pub record FirstNo {E : Type 0} (Yes : E → Type 0) (rows : List (Spot × E)) (w : Spot) : Type 0 where

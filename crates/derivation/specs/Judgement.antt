@@ -33,6 +33,10 @@ abbrev pub details : FileFault → Told
 details (Text f) = record { number = text_number f.cause; layer = 2; field = 0; row = 0; place = f.place }
 details (Row q w) = record { number = number q; layer = 3; field = field_number w.field; row = w.row; place = w.place }
 
+-- what is told where there is no fault
+abbrev pub no_details : Told
+no_details = record { number = 0; layer = 0; field = 0; row = 0; place = 0 }
+
 -- what is told as text: the five numbers, with a space between two
 abbrev pub columns : Told → List ℕ
 columns t = decimal t.number ++ 32 ∷ decimal t.layer ++ 32 ∷ decimal t.field ++ 32 ∷ decimal t.row ++ 32 ∷ decimal t.place

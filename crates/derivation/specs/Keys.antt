@@ -1,8 +1,19 @@
 -- The key of a row: the string by which rows of one list differ.
 -- Source: this project's own rule (docs/CALLS.md).
-use Rattle.std.specs.Prelude.{ℕ, List}
-use Rattle.aterm.specs.Grammar.{Shape, Tree, string}
+use Rattle.std.specs.Prelude.{ℕ, List, []}
+use Rattle.aterm.specs.Grammar.{Shape, string, row, list, Fields, last, field, Tree, Trees}
 use Rattle.aterm.specs.Reads.{Spans}
+
+-- the key of a row is its first string
+abbrev mutual
+  pub key_of : (s : Shape) → Tree s → Tree string
+  key_of string cs = cs
+  key_of (row fs) t = first_of fs t
+  key_of (list n s) ts = []
+
+  pub first_of : (fs : Fields) → Trees fs → Tree string
+  first_of (last s) t = key_of s t
+  first_of (field s fs) t = key_of s t.0
 
 module _ {V : Type 0} (s : Shape) (H : List ℕ → ℕ → V → Tree s → Type 0) where
   -- the span from start to stop is that of the key of v

@@ -13,6 +13,7 @@ pub enum FileFault {
     Row(Question, Spot),
 }
 
+// By hand: the clause of `read_file` names the error that `?` makes.
 impl From<aterm::Fault> for FileFault {
     ghost from_gives = { λ f r. r ≡ Text f };
 

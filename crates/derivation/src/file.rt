@@ -8,11 +8,12 @@ use crate::field::Field;
 use crate::formed::{FormedInput, FormedOutput, FormedSource};
 use crate::keys::{Fresh, FreshInput};
 use crate::question::Question;
-use crate::rows::{Columns, Named, Names, is_fixed};
+use crate::rows::{EmptyUnlessFixed, HasNames, ShortName, is_fixed};
 use crate::spot::Spot;
 use aterm::Derivation;
 
 // A file whose text was read; each question answers where its first no is.
+// Each call names its field and that field's list: a method a field would say the same in four functions more.
 #[derive(Clone, Copy)]
 struct Asked<'a> {
     path: &'a [u8],
@@ -26,14 +27,10 @@ impl<'a> Asked<'a> {
         ensures { Answered (λ _. present) self.now.text.now self.now.file.now result }
     {
         if self.file.outputs.as_slice().is_empty() {
-            return Some(Spot {
-                field: Field::Outputs,
-                row: 0,
-                place: 0,
-            });
+            return Some(Spot::of_list(Field::Outputs));
         }
         spot_of_no(
-            &Named,
+            &HasNames,
             Field::Inputs,
             self.text,
             self.file.inputs.as_slice(),
@@ -44,56 +41,28 @@ impl<'a> Asked<'a> {
     fn formed(&self) -> Option<Spot>
         ensures { Answered (λ _. formed) self.now.text.now self.now.file.now result }
     {
-        let outputs = spot_of_no(
-            &FormedOutput,
-            Field::Outputs,
-            self.text,
-            self.file.outputs.as_slice(),
-        );
-        let inputs = spot_of_no(
-            &FormedInput,
-            Field::Inputs,
-            self.text,
-            self.file.inputs.as_slice(),
-        );
-        let sources = spot_of_no(
-            &FormedSource,
-            Field::Sources,
-            self.text,
-            self.file.sources.as_slice(),
-        );
-        outputs.or(inputs).or(sources)
+        let text = self.text;
+        let outputs = self.file.outputs.as_slice();
+        let inputs = self.file.inputs.as_slice();
+        let sources = self.file.sources.as_slice();
+        spot_of_no(&FormedOutput, Field::Outputs, text, outputs)
+            .or_else(|| spot_of_no(&FormedInput, Field::Inputs, text, inputs))
+            .or_else(|| spot_of_no(&FormedSource, Field::Sources, text, sources))
     }
 
     // Keys different in each list, and the names in an input row?
     fn different(&self) -> Option<Spot>
         ensures { Answered (λ _. different) self.now.text.now self.now.file.now result }
     {
-        let outputs = spot_of_no(
-            &Fresh,
-            Field::Outputs,
-            self.text,
-            self.file.outputs.as_slice(),
-        );
-        let inputs = spot_of_no(
-            &FreshInput,
-            Field::Inputs,
-            self.text,
-            self.file.inputs.as_slice(),
-        );
-        let sources = spot_of_no(
-            &Fresh,
-            Field::Sources,
-            self.text,
-            self.file.sources.as_slice(),
-        );
-        let variables = spot_of_no(
-            &Fresh,
-            Field::Environment,
-            self.text,
-            self.file.environment.as_slice(),
-        );
-        outputs.or(inputs).or(sources).or(variables)
+        let text = self.text;
+        let outputs = self.file.outputs.as_slice();
+        let inputs = self.file.inputs.as_slice();
+        let sources = self.file.sources.as_slice();
+        let variables = self.file.environment.as_slice();
+        spot_of_no(&Fresh, Field::Outputs, text, outputs)
+            .or_else(|| spot_of_no(&FreshInput, Field::Inputs, text, inputs))
+            .or_else(|| spot_of_no(&Fresh, Field::Sources, text, sources))
+            .or_else(|| spot_of_no(&Fresh, Field::Environment, text, variables))
     }
 
     // The file fixed, or both columns empty?
@@ -102,7 +71,12 @@ impl<'a> Asked<'a> {
     {
         let outputs = self.file.outputs.as_slice();
         let fixed = is_fixed(self.text, outputs);
-        spot_of_no(&Columns { fixed }, Field::Outputs, self.text, outputs)
+        spot_of_no(
+            &EmptyUnlessFixed { fixed },
+            Field::Outputs,
+            self.text,
+            outputs,
+        )
     }
 
     // Each output's name at most 211 bytes?
@@ -111,7 +85,7 @@ impl<'a> Asked<'a> {
     {
         let stem = self.path.len().saturating_sub(48);
         spot_of_no(
-            &Names { stem },
+            &ShortName { stem },
             Field::Outputs,
             self.text,
             self.file.outputs.as_slice(),

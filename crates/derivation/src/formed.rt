@@ -1,7 +1,8 @@
 // Question 14: whether rows are well formed.
 ghost use Rattle.std.specs.Prelude.{◌≡◌, true, List, Decides};
-ghost use Rattle.aterm.specs.Grammar.{string, Char, raw, meaning};
-ghost use Rattle.aterm.specs.Files.{output, input, in_output, in_input, span};
+ghost use Rattle.aterm.specs.Grammar.{Char, raw, meaning};
+ghost use Rattle.store_path.specs.Names.{Name, StorePath};
+ghost use Rattle.derivation.specs.Asked.{of_outputs, of_inputs, of_strings};
 ghost use Rattle.derivation.specs.Questions.{Plain, formed_output, formed_name, formed_input, formed_source};
 
 use crate::ask::{Ask, all_yes};
@@ -16,14 +17,26 @@ fn is_plain(s: &[u8]) -> bool
     !s.contains(&b'\\')
 }
 
+// A name without backslash.
+fn is_plain_name(s: &[u8]) -> bool
+    ensures { Decides result (Plain s.now × Name s.now) }
+{
+    is_plain(s) & is_name(s)
+}
+
+// A store path without backslash.
+fn is_plain_path(s: &[u8]) -> bool
+    ensures { Decides result (Plain s.now × StorePath s.now) }
+{
+    is_plain(s) & is_store_path(s)
+}
+
 // A row of field 1. What algorithm and hash say is for question 16; here they only have no backslash.
 #[derive(Clone, Copy)]
 pub struct FormedOutput;
 
 impl Ask<Output> for FormedOutput {
-    ghost shape = { output };
-
-    ghost holds = { in_output };
+    ghost rows = { of_outputs };
 
     ghost yes = { λ q ys x. formed_output ys x };
 
@@ -32,10 +45,8 @@ impl Ask<Output> for FormedOutput {
         let path = row.path.bytes(text);
         let algorithm = row.algorithm.bytes(text);
         let hash = row.hash.bytes(text);
-        let named = is_plain(name) & is_name(name);
-        let stored = is_plain(path) & is_store_path(path);
         let plain = is_plain(algorithm) & is_plain(hash);
-        named & stored & plain
+        is_plain_name(name) & is_plain_path(path) & plain
     }
 }
 
@@ -44,15 +55,12 @@ impl Ask<Output> for FormedOutput {
 pub struct FormedName;
 
 impl Ask<Span> for FormedName {
-    ghost shape = { string };
-
-    ghost holds = { λ text at v cs. span text v at cs };
+    ghost rows = { of_strings };
 
     ghost yes = { λ q ys x. formed_name ys x };
 
     fn says(&self, text: &[u8], _earlier: &[Placed<Span>], row: &Span) -> bool {
-        let name = row.bytes(text);
-        is_plain(name) & is_name(name)
+        is_plain_name(row.bytes(text))
     }
 }
 
@@ -61,17 +69,14 @@ impl Ask<Span> for FormedName {
 pub struct FormedInput;
 
 impl Ask<Input> for FormedInput {
-    ghost shape = { input };
-
-    ghost holds = { in_input };
+    ghost rows = { of_inputs };
 
     ghost yes = { λ q ys x. formed_input ys x };
 
     fn says(&self, text: &[u8], _earlier: &[Placed<Input>], row: &Input) -> bool {
         let path = row.path.bytes(text);
-        let stored = is_plain(path) & is_store_path(path) & ends_with_drv(path);
         let names = all_yes(&FormedName, text, row.names.as_slice());
-        stored & names
+        is_plain_path(path) & ends_with_drv(path) & names
     }
 }
 
@@ -80,14 +85,11 @@ impl Ask<Input> for FormedInput {
 pub struct FormedSource;
 
 impl Ask<Span> for FormedSource {
-    ghost shape = { string };
-
-    ghost holds = { λ text at v cs. span text v at cs };
+    ghost rows = { of_strings };
 
     ghost yes = { λ q ys x. formed_source ys x };
 
     fn says(&self, text: &[u8], _earlier: &[Placed<Span>], row: &Span) -> bool {
-        let path = row.bytes(text);
-        is_plain(path) & is_store_path(path)
+        is_plain_path(row.bytes(text))
     }
 }

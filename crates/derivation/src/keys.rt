@@ -1,71 +1,49 @@
 // Question 15: the keys of rows, and whether a row repeats one.
-ghost use Rattle.std.specs.Prelude.{ℕ, List};
-ghost use Rattle.aterm.specs.Grammar.{Shape, Tree, string};
-ghost use Rattle.aterm.specs.Files.{output, input, variable, in_output, in_input, in_variable, span};
-ghost use Rattle.derivation.specs.Keys.{KeyOf};
+ghost use Rattle.std.specs.Prelude.{◌≡◌, ℕ, Decides};
+ghost use Rattle.aterm.specs.Grammar.{Tree, meaning};
+ghost use Rattle.aterm.specs.Meaning.{meant_left};
+ghost use Rattle.derivation.specs.Keys.{KeyOf, key_of};
+ghost use Rattle.derivation.specs.Asked.{of_inputs};
 ghost use Rattle.derivation.specs.Questions.{fresh, different_input};
 
 use crate::ask::{Ask, all_yes};
-use aterm::{Input, Output, Placed, Span, Variable};
+use aterm::{Input, Meant, Output, Placed, Shaped, Span, Variable};
 
 // A row that has a key.
-pub trait Keyed {
-    ghost shape: { Shape };
-
-    ghost holds: { List ℕ → ℕ → Self → Tree shape → Type 0 };
-
-    ghost label: { Tree shape → Tree string };
-
+pub trait Keyed: Shaped {
     fn key(&self) -> Span
-        ensures { KeyOf shape holds label self.now result.start result.end };
+        ensures { KeyOf Self.shape Self.holds (key_of Self.shape) self.now result.start result.end };
 }
 
 impl Keyed for Output {
-    ghost shape = { output };
-
-    ghost holds = { in_output };
-
-    ghost label = { λ x. x.0 };
-
     fn key(&self) -> Span {
         self.name
     }
 }
 
 impl Keyed for Input {
-    ghost shape = { input };
-
-    ghost holds = { in_input };
-
-    ghost label = { λ x. x.0 };
-
     fn key(&self) -> Span {
         self.path
     }
 }
 
 impl Keyed for Span {
-    ghost shape = { string };
-
-    ghost holds = { λ text at v cs. span text v at cs };
-
-    ghost label = { λ x. x };
-
     fn key(&self) -> Span {
         *self
     }
 }
 
 impl Keyed for Variable {
-    ghost shape = { variable };
-
-    ghost holds = { in_variable };
-
-    ghost label = { λ x. x.0 };
-
     fn key(&self) -> Span {
         self.name
     }
+}
+
+// Whether a row's key means the same as another.
+fn has_key<T: Keyed>(text: &[u8], row: &T, key: Meant<'_>) -> bool
+    ensures { (at : ℕ) (x : Tree T.shape) → T.holds text.now at row.now x → Decides result (meaning (key_of T.shape x) ≡ meant_left key.entry) }
+{
+    row.key().meant(text).eq(key)
 }
 
 // Whether no row before has the key of this one, by what the keys mean.
@@ -73,20 +51,13 @@ impl Keyed for Variable {
 pub struct Fresh;
 
 impl<T: Keyed> Ask<T> for Fresh {
-    ghost shape = { T.Keyed.shape };
+    ghost rows = { record { shape = T.shape; holds = T.holds } };
 
-    ghost holds = { T.Keyed.holds };
-
-    ghost yes = { λ q ys x. fresh T.Keyed.label ys x };
+    ghost yes = { λ q ys x. fresh (key_of T.shape) ys x };
 
     fn says(&self, text: &[u8], earlier: &[Placed<T>], row: &T) -> bool {
         let mine = row.key().meant(text);
-        for y in earlier {
-            if y.value.key().meant(text).eq(mine) {
-                return false;
-            }
-        }
-        true
+        !earlier.iter().any(|y| has_key(text, &y.value, mine))
     }
 }
 
@@ -95,9 +66,7 @@ impl<T: Keyed> Ask<T> for Fresh {
 pub struct FreshInput;
 
 impl Ask<Input> for FreshInput {
-    ghost shape = { input };
-
-    ghost holds = { in_input };
+    ghost rows = { of_inputs };
 
     ghost yes = { λ q ys x. different_input ys x };
 

@@ -1,12 +1,12 @@
 // What the questions 13, 16 and 17 ask of a row.
-ghost use Rattle.std.specs.Prelude.{◌≡◌, ℕ, ◌-◌, ◌<◌, ◌≤◌, T as Is, ◌⊎◌, List, length, Decides};
+ghost use Rattle.std.specs.Prelude.{◌≡◌, ◌≢◌, ℕ, ◌-◌, ◌<◌, ◌≤◌, T as Is, ◌⊎◌, List, length, Decides, MatchOption};
 ghost use Rattle.aterm.specs.Grammar.{raw, Tree};
 ghost use Rattle.aterm.specs.Reads.{Each};
-ghost use Rattle.std.specs.List.{ContainsAt as Has, AllByRecursion};
-ghost use Rattle.aterm.specs.Files.{output, input, in_output, in_input};
-ghost use Rattle.derivation.specs.Questions.{named, blank as both_blank, Given, FixedFile, hashed, name_length, hex};
+ghost use Rattle.aterm.specs.Files.{output, in_output};
+ghost use Rattle.derivation.specs.Asked.{of_outputs, of_inputs};
+ghost use Rattle.derivation.specs.Questions.{named, blank as both_blank, Kind, spelt, digits, Given, FixedFile, hashed, name_length};
 
-use crate::ask::{Ask, all_yes};
+use crate::ask::Ask;
 use aterm::{Input, Output, Placed};
 use store_path::all_in;
 
@@ -18,12 +18,10 @@ const HEX: &[u8] = b"0123456789abcdef";
 
 // Whether an input row has a name.
 #[derive(Clone, Copy)]
-pub struct Named;
+pub struct HasNames;
 
-impl Ask<Input> for Named {
-    ghost shape = { input };
-
-    ghost holds = { in_input };
+impl Ask<Input> for HasNames {
+    ghost rows = { of_inputs };
 
     ghost yes = { λ q ys x. named ys x };
 
@@ -34,14 +32,12 @@ impl Ask<Input> for Named {
 
 // Whether both columns are empty, unless the file is fixed.
 #[derive(Clone, Copy)]
-pub struct Columns {
+pub struct EmptyUnlessFixed {
     pub fixed: bool,
 }
 
-impl Ask<Output> for Columns {
-    ghost shape = { output };
-
-    ghost holds = { in_output };
+impl Ask<Output> for EmptyUnlessFixed {
+    ghost rows = { of_outputs };
 
     ghost yes = { λ q ys x. Is q.fixed ⊎ both_blank x };
 
@@ -52,31 +48,33 @@ impl Ask<Output> for Columns {
     }
 }
 
-// Whether the algorithm is called so, and the hash has so many digits.
-fn is_called(algorithm: &[u8], hash: &[u8], name: &[u8], marked: &[u8], count: usize) -> bool
-    ensures { Decides result (((algorithm.now ≡ name.now) ⊎ (algorithm.now ≡ marked.now)) × (length hash.now ≡ count) × AllByRecursion (Has hex) hash.now) }
+// How many digits a hash of the algorithm has.
+fn digits_of(algorithm: &[u8]) -> Option<usize>
+    ensures { MatchOption result ((k : Kind) → algorithm.now ≢ spelt k) (λ n. (k : Kind) × (algorithm.now ≡ spelt k) × (n ≡ digits k)) }
 {
-    (algorithm == name || algorithm == marked) && hash.len() == count && all_in(hash, HEX)
+    match algorithm {
+        b"md5" => Some(32),
+        b"sha1" => Some(40),
+        b"sha256" => Some(64),
+        b"sha512" => Some(128),
+        _ => None,
+    }
 }
 
 // Whether the algorithm is one of four, perhaps after `r:`, and the hash has its number of digits.
-pub fn is_given(algorithm: &[u8], hash: &[u8]) -> bool
+fn is_given(algorithm: &[u8], hash: &[u8]) -> bool
     ensures { Decides result (Given algorithm.now hash.now) }
 {
-    is_called(algorithm, hash, b"md5", b"r:md5", 32)
-        | is_called(algorithm, hash, b"sha1", b"r:sha1", 40)
-        | is_called(algorithm, hash, b"sha256", b"r:sha256", 64)
-        | is_called(algorithm, hash, b"sha512", b"r:sha512", 128)
+    let bare = algorithm.strip_prefix(b"r:").unwrap_or(algorithm);
+    digits_of(bare).is_some_and(|count| hash.len() == count && all_in(hash, HEX))
 }
 
 // Whether an output is `out`, with a hash.
 #[derive(Clone, Copy)]
-pub struct Hashed;
+pub struct FixedOutput;
 
-impl Ask<Output> for Hashed {
-    ghost shape = { output };
-
-    ghost holds = { in_output };
+impl Ask<Output> for FixedOutput {
+    ghost rows = { of_outputs };
 
     ghost yes = { λ q ys x. hashed x };
 
@@ -92,19 +90,20 @@ impl Ask<Output> for Hashed {
 pub fn is_fixed(text: &[u8], outputs: &[Placed<Output>]) -> bool
     ensures { (from : ℕ) (xs : List (Tree output)) → Each output (in_output text.now) from outputs.now xs → Decides result (FixedFile xs) }
 {
-    (outputs.len() == 1) & all_yes(&Hashed, text, outputs)
+    match outputs {
+        [only] => FixedOutput.says(text, &[], &only.value),
+        _ => false,
+    }
 }
 
 // Whether an output's name has at most 211 bytes, after a stem of so many.
 #[derive(Clone, Copy)]
-pub struct Names {
+pub struct ShortName {
     pub stem: usize,
 }
 
-impl Ask<Output> for Names {
-    ghost shape = { output };
-
-    ghost holds = { in_output };
+impl Ask<Output> for ShortName {
+    ghost rows = { of_outputs };
 
     ghost yes = { λ q ys x. name_length q.stem (raw x.0) ≤ 211 };
 
@@ -113,9 +112,8 @@ impl Ask<Output> for Names {
         if name == OUT {
             return self.stem <= 211;
         }
-        if name.len() >= 211 {
-            return false;
-        }
-        self.stem <= 210 - name.len()
+        210usize
+            .checked_sub(name.len())
+            .is_some_and(|most| self.stem <= most)
     }
 }

@@ -1,6 +1,6 @@
 // The numbers that a fault is told by.
-ghost use Rattle.std.specs.Prelude.{◌≡◌, Some};
-ghost use Rattle.derivation.specs.Judgement.{details, columns};
+ghost use Rattle.std.specs.Prelude.{◌≡◌, Some, MatchResult};
+ghost use Rattle.derivation.specs.Judgement.{details, no_details, columns};
 
 use crate::fault::FileFault;
 use aterm::Cause;
@@ -40,6 +40,18 @@ impl From<FileFault> for Told {
                 row: spot.row,
                 place: spot.place,
             },
+        }
+    }
+}
+
+// What is told of a result: its refusal, and all 0 where there is none.
+impl<T: Drop, E: Into<Told>> From<Result<T, E>> for Told {
+    ghost from_gives = { λ r t. MatchResult r (λ _. t ≡ no_details) (λ e. E.converts e t) };
+
+    fn from(value: Result<T, E>) -> Told {
+        match value {
+            Ok(_) => Told::default(),
+            Err(e) => e.into(),
         }
     }
 }

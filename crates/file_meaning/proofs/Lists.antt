@@ -31,10 +31,6 @@ pub rows_each : {X : Type 0} (P : X → Type 0) (ys xs : List X) → AllByRecurs
 rows_each P ys [] a = tt
 rows_each P ys (x ∷ xs) a = (a.0, rows_each P (ys ++ x ∷ []) xs a.1)
 
-pub all_map : {X : Type 0} (P Q : X → Type 0) → ((x : X) → P x → Q x) → (xs : List X) → AllByRecursion P xs → AllByRecursion Q xs
-all_map P Q f [] a = tt
-all_map P Q f (x ∷ xs) a = (f x a.0, all_map P Q f xs a.1)
-
 pub through_map : {X : Type 0} (P Q : List X → X → Type 0) → ((ys : List X) (x : X) → P ys x → Q ys x) → (ys xs : List X) → Throughout P ys xs → Throughout Q ys xs
 through_map P Q f ys [] a = tt
 through_map P Q f ys (x ∷ xs) a = (f ys x a.0, through_map P Q f (ys ++ x ∷ []) xs a.1)

@@ -1,5 +1,6 @@
 -- To pass the questions is a property of the meaning: a canonical tree of the same meaning passes them too.
 use Rattle.std.proofs.Common.{◌≡◌, ℕ, ◌≤◌, ◌⊎◌, List, [], ◌∷◌, length, codes, sym, refl, ap, ◌∙◌, subst, inl, inr, arith}
+use Rattle.std.proofs.ByRecursion.{All-weaker}
 use Rattle.std.specs.List.{AllByRecursion}
 use Rattle.aterm.specs.Files.{output, input, variable, derivation}
 use Rattle.aterm.specs.Grammar.{Tree, string, raw, meaning}
@@ -14,7 +15,7 @@ use Rattle.canonical.specs.Order.{Under, Along, Rising, Member}
 use Rattle.canonical.proofs.Exist.{means_key}
 use Rattle.canonical.proofs.Members.{member_all, all_from_member, one_rising}
 use Rattle.file_meaning.proofs.Clean.{Clean, raw_clean, clean_plain, clean_name, clean_store, clean_algorithm, clean_hash}
-use Rattle.file_meaning.proofs.Lists.{each_row, rows_each, all_map, through_map, through_both, different, new_from_rising, along_there, along_back_with}
+use Rattle.file_meaning.proofs.Lists.{each_row, rows_each, through_map, through_both, different, new_from_rising, along_there, along_back_with}
 use Rattle.file_meaning.proofs.Trees.{Passes}
 
 -- ---- lists of rows and of values
@@ -175,7 +176,7 @@ columns : (os : List (Value an_output)) → FixedValue os ⊎ AllByRecursion Bla
 columns os (inl f) =
     let g = f.given.1 in
     subst (AllByRecursion CleanColumns) (sym f.whole) ((clean_algorithm g.0 f.only.1.1.0 f.only.1.1.1 g.1, clean_hash g.0 f.only.1.1.0 f.only.1.1.1 g.1), tt)
-columns os (inr b) = all_map BlankOutput CleanColumns blank_clean os b
+columns os (inr b) = All-weaker BlankOutput CleanColumns blank_clean os b
 
 abbrev OutputClean : Value an_output → Type 0
 OutputClean o = FormedOutput o × CleanColumns o
@@ -252,7 +253,7 @@ again path x m means c p =
       new_outputs = new_from_rising (λ o. o.0) x.0 c.0.0;
       new_inputs =
           through_both (fresh (λ i. i.0)) (λ _ i. Throughout (fresh (λ n. n)) [] i.1) [] x.1.0 (new_from_rising (λ i. i.0) x.1.0 c.1.0.0)
-          (rows_each (λ i. Throughout (fresh (λ n. n)) [] i.1) [] x.1.0 (all_map (Canonical an_input) (λ i. Throughout (fresh (λ n. n)) [] i.1) names_rise x.1.0 c.1.0.1));
+          (rows_each (λ i. Throughout (fresh (λ n. n)) [] i.1) [] x.1.0 (All-weaker (Canonical an_input) (λ i. Throughout (fresh (λ n. n)) [] i.1) names_rise x.1.0 c.1.0.1));
       new_sources = new_from_rising (λ s. s) x.1.1.0 c.1.1.0.0;
       new_variables = new_from_rising (λ v. v.0) x.1.1.1.1.1.1 c.1.1.1.1.1.1.0;
       fixed = way outs clean p.fixed;
@@ -288,7 +289,7 @@ keys_apart path x p = (
   (
     (
       different (λ i. i.0) x.1.0 (through_map different_input (fresh (λ i. i.0)) (λ ys i d. d.0) [] x.1.0 p.new_inputs),
-      all_map (λ i. Throughout (fresh (λ n. n)) [] i.1) (Apart an_input) input_apart x.1.0 (each_row (λ i. Throughout (fresh (λ n. n)) [] i.1) [] x.1.0 (through_map different_input (λ _ i. Throughout (fresh (λ n. n)) [] i.1) (λ ys i d. d.1) [] x.1.0 p.new_inputs)),
+      All-weaker (λ i. Throughout (fresh (λ n. n)) [] i.1) (Apart an_input) input_apart x.1.0 (each_row (λ i. Throughout (fresh (λ n. n)) [] i.1) [] x.1.0 (through_map different_input (λ _ i. Throughout (fresh (λ n. n)) [] i.1) (λ ys i d. d.1) [] x.1.0 p.new_inputs)),
     ),
     (
       (different (λ s. s) x.1.1.0 p.new_sources, string_apart x.1.1.0),

@@ -7,7 +7,7 @@ use canonical::write_canonical;
 use derivation::{FileFault, read_file};
 use sink::{Full, Sink};
 
-// Why the canonical text of a file was not written.
+// Why the canonical text of a file was not written: an error of its own, since `?` makes it of two refusals.
 #[derive(Clone, Copy)]
 pub enum Unwritten {
     // The file does not read.
@@ -16,6 +16,7 @@ pub enum Unwritten {
     Full,
 }
 
+// By hand, here and below: the clause of `write_canonical_file` names the error that `?` makes.
 impl From<FileFault> for Unwritten {
     ghost from_gives = { λ fault e. e ≡ Fault fault };
 

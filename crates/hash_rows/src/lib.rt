@@ -8,4 +8,4 @@ mod table;
 pub use hash::{Hash, HashRow};
 pub use laws::rows_stand;
 pub use table::HashRows;
-pub use table::calls::gather;
+pub use table::calls::{gather, gather_from};

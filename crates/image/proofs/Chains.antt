@@ -1,5 +1,5 @@
 -- The walk along the chain.
-use Rattle.std.proofs.Common.{◌≡◌, ℕ, ◌+◌, ◌-◌, ◌<◌, ◌≤◌, Bool, true, false, ◌≢◌, List, length, get_or, take, set, Decides, sym, refl, ap, ◌∙◌, subst, inl, inr, add-one, arith, length-set, below_more}
+use Rattle.std.proofs.Common.{◌≡◌, ℕ, ◌+◌, ◌<◌, ◌≤◌, Bool, true, false, ◌≢◌, List, length, get_or, take, set, Decides, sym, refl, ap, ◌∙◌, subst, inl, inr, add-one, arith, length-set, below_more}
 use Rattle.std.proofs.lemmas.List.{get_or_default, get_or-take, get_or-set_same, get_or-set_other, length-take-le}
 use Rattle.std.proofs.lemmas.Bool.{cases_lt}
 use Rattle.std.proofs.lemmas.Bool.Decides.{not_from_Decides}
@@ -92,16 +92,11 @@ walk_more img slots n slot index next fits w g is = record {
 }
 
 -- the test that the loop makes at an index, told by its answer
-module _ (img slots : List ℕ) (n slot index count : ℕ) (r : Bool) (few : Slotted img) (w : Walk img slots n slot index) (some : 0 < index) (small : n ≤ 256) (all : count ≡ slot_count img) (d : Decides r ((index ≤ count) × (Has (take (n - 0) slots) index → ⊥))) where
-  same : n - 0 ≡ n
-  same = omega arith
-
+module _ (img slots : List ℕ) (n slot index count : ℕ) (r : Bool) (few : Slotted img) (w : Walk img slots n slot index) (some : 0 < index) (small : n ≤ 256) (all : count ≡ slot_count img) (d : Decides r ((index ≤ count) × (Has (take n slots) index → ⊥))) where
   pub test_good : r ≡ true → Good img n
   test_good t =
       let yes = d.0 t in
-      next_good img slots n slot index few w some small (omega (arith, yes.0)) (subst (λ k. Has (take k slots) index → ⊥) same yes.1)
+      next_good img slots n slot index few w some small (omega (arith, yes.0)) yes.1
 
   pub test_bad : r ≡ false → BadLink img slot
-  test_bad f =
-      next_bad img slots n slot index few w some small
-      (λ p. not_from_Decides r d f (omega (arith, p.0), subst (λ k. Has (take k slots) index → ⊥) (sym same) p.1))
+  test_bad f = next_bad img slots n slot index few w some small (λ p. not_from_Decides r d f (omega (arith, p.0), p.1))

@@ -1,6 +1,6 @@
 -- Which images open, and with which refusal an image does not: the questions put to it, in their order.
 -- Source: this project's own format (docs/FORMATS.md, "Image"; docs/CALLS.md, "Open").
-use Rattle.std.specs.Prelude.{◌≡◌, ℕ, ◌+◌, ◌<◌, ◌≤◌, List, length, Ok, Err, Result, ◌≢◌}
+use Rattle.std.specs.Prelude.{◌≡◌, ℕ, ◌+◌, ◌<◌, ◌≤◌, Bool, true, false, List, length, Ok, Err, Result, MatchResult, ◌≢◌}
 use Rattle.store_path.specs.Names.{StorePath, Drv}
 use Rattle.image.specs.Chain.{Sized, Slotted, Chained, BadLink}
 use Rattle.image.specs.Layout.{path_length, path_offset, text_length, text_offset, path_in, link}
@@ -39,6 +39,18 @@ pub record FirstNo (img : List ℕ) (Yes : ℕ → Type 0) (n slot : ℕ) : Type
   pub before : Every Yes after
   pub refused : Yes after → ⊥
   pub tells : slot ≡ link img after
+
+-- of the first n links this slot is the first at which what is asked says no
+pub record FirstSaid (img : List ℕ) (Says : ℕ → Bool → Type 0) (n slot : ℕ) : Type 0 where
+  pub after : ℕ
+  pub below : after < n
+  pub before : Every (λ m. Says m true) after
+  pub refused : Says after false
+  pub tells : slot ≡ link img after
+
+-- what is asked says yes at each of the first n links, or r is the first slot at which it says no
+pub record Asked (img : List ℕ) (Says : ℕ → Bool → Type 0) (n : ℕ) (r : Result (Unit {0}) ℕ) : Type 0 where
+  pub told : MatchResult r (λ _. Every (λ m. Says m true) n) (FirstSaid img Says n)
 
 -- an image that opens, with n files
 pub record Opens (img : List ℕ) (n : ℕ) : Type 0 where

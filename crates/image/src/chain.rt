@@ -5,7 +5,7 @@ ghost use Rattle.image.specs.Layout.{slot_count, link};
 ghost use Rattle.image.specs.Chain.{Sized, Slotted, Chained};
 ghost use Rattle.image.specs.Opening.{Refused};
 
-use crate::fields::le16_at;
+use crate::fields::bytes_at;
 use crate::refusal::Refusal;
 use crate::slot::Slot;
 
@@ -16,7 +16,6 @@ pub struct Chain<'a> {
     pub bytes: &'a [u8],
     slots: [u16; 256],
     pub count: usize,
-    ghost wide: { length slots ≡ 256 },
     ghost few: { count ≤ 256 },
     ghost are: { (m : ℕ) → m < count → slice_index slots m ≡ link bytes.now m },
     ghost some: { (m : ℕ) → m < count → 0 < link bytes.now m },
@@ -48,14 +47,15 @@ impl<'a> Chain<'a> {
         requires { (Sized bytes.now) × (Slotted bytes.now) }
         ensures { MatchResult result (λ c. (c.bytes ≡ bytes.entry) × Chained bytes.entry.now c.count) (Refused bytes.entry.now) }
     {
-        let last = le16_at(bytes, 0);
+        let last = u16::from_le_bytes(bytes_at(bytes, 0));
         let mut slots = [0u16; 256];
         let mut count = 0;
         let mut slot = 0;
-        let mut index = le16_at(bytes, 2);
-        // Each index stands in the slot before it, so there is nothing to go through but the chain itself.
+        let mut index = u16::from_le_bytes(bytes_at(bytes, 2));
+        // Index 0 ends the chain, as the image's format says.
+        // No `std::iter::successors`: it need not end, since the chain may run in a circle until `may_follow` says so.
         while index != 0 {
-            if !may_follow(&slots[0..count], last, index) {
+            if !may_follow(&slots[..count], last, index) {
                 return Err(Refusal::Link(slot));
             }
             slots[count] = index;
@@ -75,6 +75,7 @@ impl<'a> Chain<'a> {
     pub fn get(&self, n: usize) -> Option<Slot<'a>>
         ensures { MatchOption result (self.now.count ≤ n) (λ s. (n < self.now.count) × (s.bytes ≡ self.now.bytes) × (s.index ≡ link self.now.bytes.now n)) }
     {
+        // An `if`: the check finds it alone, where `then` would need a clause on its closure and a proof by hand.
         if n < self.count {
             Some(self.slot(n))
         } else {

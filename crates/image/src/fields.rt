@@ -1,21 +1,12 @@
-// Numbers and parts of an image as they lie in its bytes.
-ghost use Rattle.std.specs.Prelude.{◌≡◌, ◌+◌, ◌≤◌, length, take, drop, Decides};
-ghost use Rattle.image.specs.Layout.{le16, le32};
+// Bytes and parts of an image.
+ghost use Rattle.std.specs.Prelude.{◌≡◌, ℕ, ◌+◌, ◌<◌, ◌≤◌, length, take, drop, slice_index, Decides};
 
-// Two bytes, the low one first.
-pub fn le16_at(bytes: &[u8], at: usize) -> u16
-    requires { at + 2 ≤ length bytes.now }
-    ensures { result ≡ le16 bytes.now at }
+// The N bytes from `at` on.
+pub fn bytes_at<const N: usize>(bytes: &[u8], at: usize) -> [u8; N]
+    requires { at + N ≤ length bytes.now }
+    ensures { (i : ℕ) → i < N → slice_index result i ≡ slice_index bytes.now (at + i) }
 {
-    u16::from_le_bytes([bytes[at], bytes[at + 1]])
-}
-
-// Four bytes, the low one first.
-pub fn le32_at(bytes: &[u8], at: usize) -> u32
-    requires { at + 4 ≤ length bytes.now }
-    ensures { result ≡ le32 bytes.now at }
-{
-    u32::from_le_bytes([bytes[at], bytes[at + 1], bytes[at + 2], bytes[at + 3]])
+    *bytes[at..].first_chunk().unwrap()
 }
 
 // Where a part of the image begins, and how long it is.
@@ -35,12 +26,11 @@ impl Extent {
             .is_some_and(|end| end <= bytes.len())
     }
 
-    // The part itself.
+    // The part itself. One that reaches past the image ends with it.
     pub fn cut<'a>(self, bytes: &'a [u8]) -> &'a [u8]
-        requires { self.start + self.len ≤ length bytes.now }
         ensures { result.now ≡ take self.len (drop self.start bytes.now) }
     {
-        let end = self.start + self.len;
-        &bytes[self.start..end]
+        let rest = &bytes[self.start.min(bytes.len())..];
+        &rest[..self.len.min(rest.len())]
     }
 }

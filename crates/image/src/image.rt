@@ -6,6 +6,7 @@ use crate::chain::Chain;
 pub mod open;
 
 // The chain of its slots, over bytes that are kept by reference.
+// The clauses name its bytes and its number of files apart: the laws speak of any list of bytes, of which no `Image` need be made.
 #[derive(Clone, Copy)]
 pub struct Image<'a> {
     chain: Chain<'a>,

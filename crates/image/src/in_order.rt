@@ -5,6 +5,7 @@ ghost use Rattle.std.specs.Iterator.{YieldsFirstBy, item_count};
 use crate::image::{File, Image};
 
 // The files that are left of an image, from the one of this number on.
+// `Copy` as well: `Clone` alone is not derived over a ghost field.
 #[derive(Clone, Copy)]
 pub struct Files<'i, 'a> {
     image: &'i Image<'a>,

@@ -1,4 +1,4 @@
-// Why an image does not open. The slots are counted from 1; 0 stands for the header.
+// Why an image does not open. The slots are counted from 1; 0 stands for the header, as it is printed.
 #[derive(Clone, Copy)]
 pub enum Refusal {
     // It is shorter than 4 bytes or longer than 4,194,304.

@@ -1,9 +1,9 @@
 // A slot of an image, and what its fields say.
-ghost use Rattle.std.specs.Prelude.{◌≡◌, ◌+◌, ◌*◌, ◌<◌, ◌≤◌, length, Decides};
-ghost use Rattle.image.specs.Layout.{slot_at, next_index, path_length, path_offset, text_length, text_offset, path_in, text_in};
+ghost use Rattle.std.specs.Prelude.{◌≡◌, ℕ, ◌+◌, ◌*◌, ◌<◌, ◌≤◌, length, slice_index, Decides};
+ghost use Rattle.image.specs.Layout.{le32, slot_at, next_index, path_length, path_offset, text_length, text_offset, path_in, text_in};
 ghost use Rattle.image.specs.Opening.{Inside};
 
-use crate::fields::{Extent, le16_at, le32_at};
+use crate::fields::{Extent, bytes_at};
 
 // The longest text that a slot may name.
 const LONGEST_TEXT: usize = 262144;
@@ -18,38 +18,45 @@ pub struct Slot<'a> {
 }
 
 impl<'a> Slot<'a> {
-    // Where it begins.
-    fn start(self) -> usize
-        ensures { result ≡ slot_at self.entry.index }
+    // A field of N bytes, by its place in the slot.
+    fn field<const N: usize>(self, place: usize) -> [u8; N]
+        requires { place + N ≤ 16 }
+        ensures { (i : ℕ) → i < N → slice_index result i ≡ slice_index self.entry.bytes.now (slot_at self.entry.index + place + i) }
     {
-        4 + 16 * (self.index as usize - 1)
+        bytes_at(self.bytes, 4 + 16 * (self.index as usize - 1) + place)
     }
 
-    // The index of the slot that follows it in the chain.
+    // The index of the slot that follows it in the chain; 0 ends it, as the image's format says.
     pub fn next(self) -> u16
         ensures { result ≡ next_index self.entry.bytes.now self.entry.index }
     {
-        le16_at(self.bytes, self.start())
+        u16::from_le_bytes(self.field(0))
+    }
+
+    // The part of this length whose beginning stands in the field at `place`.
+    fn part(self, place: usize, len: usize) -> Extent
+        requires { place + 4 ≤ 16 }
+        ensures start { result.start ≡ le32 self.entry.bytes.now (slot_at self.entry.index + place) }
+        ensures len { result.len ≡ len }
+    {
+        let start = u32::from_le_bytes(self.field(place)) as usize;
+        Extent { start, len }
     }
 
     fn path_extent(self) -> Extent
         ensures start { result.start ≡ path_offset self.entry.bytes.now self.entry.index }
         ensures len { result.len ≡ path_length self.entry.bytes.now self.entry.index }
     {
-        let at = self.start();
-        let start = le32_at(self.bytes, at + 4) as usize;
-        let len = le16_at(self.bytes, at + 2) as usize;
-        Extent { start, len }
+        let len = u16::from_le_bytes(self.field(2));
+        self.part(4, len as usize)
     }
 
     fn text_extent(self) -> Extent
         ensures start { result.start ≡ text_offset self.entry.bytes.now self.entry.index }
         ensures len { result.len ≡ text_length self.entry.bytes.now self.entry.index }
     {
-        let at = self.start();
-        let start = le32_at(self.bytes, at + 8) as usize;
-        let len = le32_at(self.bytes, at + 12) as usize;
-        Extent { start, len }
+        let len = u32::from_le_bytes(self.field(12));
+        self.part(8, len as usize)
     }
 
     // Whether its path and its text lie inside the image, and the text is not too long.
@@ -64,7 +71,6 @@ impl<'a> Slot<'a> {
     // The path that it names.
     #[tactic(auto, unfolding(crate::specs::Layout::path_in))]
     pub fn named_path(self) -> &'a [u8]
-        requires { Inside self.bytes.now self.index }
         ensures { result.now ≡ path_in self.entry.bytes.now self.entry.index }
     {
         self.path_extent().cut(self.bytes)
@@ -73,7 +79,6 @@ impl<'a> Slot<'a> {
     // The text that it names.
     #[tactic(auto, unfolding(crate::specs::Layout::text_in))]
     pub fn named_text(self) -> &'a [u8]
-        requires { Inside self.bytes.now self.index }
         ensures { result.now ≡ text_in self.entry.bytes.now self.entry.index }
     {
         self.text_extent().cut(self.bytes)

@@ -5,7 +5,7 @@ ghost use Rattle.image.specs.Opening.{refusal_number, refusal_slot};
 use crate::refusal::Refusal;
 
 impl Refusal {
-    // A match, since most variants carry a slot: `as` takes enums without fields alone.
+    // A match and no discriminants: `as` takes enums without fields alone, and the variants, which callers match, carry slots.
     pub fn number(self) -> u8
         ensures { result ≡ refusal_number self }
     {
@@ -19,6 +19,7 @@ impl Refusal {
         }
     }
 
+    // 0 where no slot is at fault, as it is printed.
     pub fn slot(self) -> u16
         ensures { result ≡ refusal_slot self }
     {

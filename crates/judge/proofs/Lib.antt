@@ -1,4 +1,5 @@
 pub mod Environment
+pub mod Finding
 pub mod Judging
 pub mod Matched
 pub mod Moving

@@ -1,41 +1,29 @@
--- What a matching sink knows after bytes were written to it.
-use Rattle.std.proofs.Common.{◌≡◌, ℕ, ◌+◌, ◌-◌, ◌^◌, ◌<◌, ◌≤◌, Bool, true, false, eqb, List, [], ◌∷◌, length, get_or, take, drop, Decides, sym, refl, ap, ◌∙◌, inl, inr, arith, eq-eqb, ne_eqb}
-use Rattle.std.proofs.lemmas.List.{take_more, drop_all, take-append-drop, length-take, length-drop}
+-- What a string that is held against bytes has to come after them.
+use Rattle.std.proofs.Common.{◌≡◌, ℕ, ◌-◌, ◌<◌, ◌≤◌, Bool, true, false, cond, eqb, List, [], ◌∷◌, length, take, drop, Decides, sym, refl, ap, ◌∙◌, inl, inr, arith, eq-eqb, ne_eqb}
+use Rattle.std.specs.Bool.{then_some}
+use Rattle.std.proofs.lemmas.List.{length-take, length-drop}
 use Rattle.std.proofs.lemmas.Bool.{cond-true, cond-false, cond_both, cases_eq}
-use Rattle.aterm.specs.Meaning.{meant}
+use Rattle.aterm.specs.Meaning.{meant, meant_left}
+use Rattle.aterm.specs.declared.meant.Meant.{Meant}
 use Rattle.canonical.specs.Decode.{said}
-use Rattle.sink.specs.Write.{Held, steps, filled, Taken, Stopped}
-use Rattle.sink.proofs.Writing.{parts, kept, steps_append}
-use Rattle.judge.specs.Matching.{matching, matched}
+use Rattle.sink.specs.Write.{steps}
+use Rattle.judge.specs.Matching.{matching, expected}
 
 -- ---- one byte
 
-module _ (xs : List ℕ) (b : ℕ) where
-  pub next_same : (x : ℕ) (rest : List ℕ) → xs ≡ x ∷ rest → x ≡ b → 0 ∷ rest ≡ matching (0 ∷ xs) b
-  next_same x rest e q = sym (ap (λ (l : List ℕ). matching (0 ∷ l) b) e ∙ cond-true (eqb x b) (0 ∷ rest) [] (eq-eqb x b q))
-
-  pub next_other : (x : ℕ) (rest : List ℕ) → xs ≡ x ∷ rest → (x ≡ b → ⊥) → [] ≡ matching (0 ∷ xs) b
-  next_other x rest e n = sym (ap (λ (l : List ℕ). matching (0 ∷ l) b) e ∙ cond-false (eqb x b) (0 ∷ rest) [] (ne_eqb x b n))
-
-  pub next_none : xs ≡ [] → [] ≡ matching (0 ∷ xs) b
-  next_none e = sym (ap (λ (l : List ℕ). matching (0 ∷ l) b) e)
+-- the next byte of the string and the one written
+pub next_matched : (xs : List ℕ) (x b : ℕ) (rest : Meant) → xs ≡ x ∷ meant_left rest → expected (then_some (eqb x b) rest) ≡ matching (0 ∷ xs) b
+next_matched xs x b rest e = either (eqb x b) ∙ sym (ap (λ (l : List ℕ). matching (0 ∷ l) b) e)
+  where
+    either : (t : Bool) → expected (then_some t rest) ≡ cond t (0 ∷ meant_left rest) []
+    either true = refl
+    either false = refl
 
 -- ---- all bytes
 
 pub stays : (ys : List ℕ) → steps matching [] ys ≡ []
 stays [] = refl
 stays (y ∷ ys) = stays ys
-
-pub passed : (s u : List ℕ) (ys : List ℕ) (i : ℕ) → i < length ys → u ≡ matching (steps matching s (take i ys)) (get_or ys i 0) → u ≡ steps matching s (take (i + 1) ys)
-passed s u ys i h e = e ∙ steps_append matching s (take i ys) (get_or ys i 0 ∷ []) ∙ ap (steps matching s) (sym (take_more ys i 0 h))
-
-pub stopped : (s : List ℕ) (ys : List ℕ) (i : ℕ) → i < length ys → [] ≡ matching (steps matching s (take i ys)) (get_or ys i 0) → [] ≡ steps matching s ys
-stopped s ys i h e =
-    let front = take (i + 1) ys in
-    sym (stays (drop (i + 1) ys))
-    ∙ ap (λ (l : List ℕ). steps matching l (drop (i + 1) ys)) (passed s [] ys i h e)
-    ∙ steps_append matching s front (drop (i + 1) ys)
-    ∙ ap (steps matching s) (take-append-drop (i + 1) ys)
 
 pub all_same : (xs ys : List ℕ) → xs ≡ ys → steps matching (0 ∷ xs) ys ≡ 0 ∷ []
 all_same xs ys e = ap (λ (l : List ℕ). steps matching (0 ∷ l) ys) e ∙ whole ys
@@ -57,23 +45,9 @@ only_same (x ∷ xs) (y ∷ ys) e = elim (cases_eq x y) [
       )
 ]
 
--- ---- the sink
-
-pub matched_taken : (s s' : List ℕ) (count count' : ℕ) (bs : List ℕ) → s' ≡ steps matching s bs → count' ≡ count + length bs → count' < 2 ^ 128
-    → Taken matching (matched s count) bs (matched s' count')
-unfolding filled
-matched_taken s s' count count' bs e more fits =
-    (omega arith, parts _ _ _ _ _ _ _ _ _ _ e (omega arith) (omega arith) (sym (drop_all (length bs) [] (omega arith))) refl)
-
-pub matched_kept : (s : List ℕ) (count : ℕ) (bs : List ℕ) → 2 ^ 128 - 1 - count < length bs → Stopped matching (matched s count) bs (matched s count)
-matched_kept s count bs past = kept matching (matched s count) (matched s count) bs (omega arith) past refl
-
--- the string xs was what was written, if the sink is through with it
-pub is_through : (r : Bool) (xs left : List ℕ) → left ≡ xs → (s ys : List ℕ) (count : ℕ) → matched s count ≡ filled matching (matched (0 ∷ left) 0) ys → Decides r (s ≡ 0 ∷ []) → Decides r (xs ≡ ys)
-unfolding filled
-is_through r xs left same s ys count e d =
-    let after : s ≡ steps matching (0 ∷ left) ys = ap (λ (h : Held). h.meaning.state) e in
-    (λ t. sym same ∙ only_same left ys (sym after ∙ d.0 t), λ q. d.1 (after ∙ all_same left ys (same ∙ q)))
+-- the string xs was what was written, if all of it was and nothing else
+pub is_through : (r : Bool) (xs left : List ℕ) → left ≡ xs → (s ys : List ℕ) → s ≡ steps matching (0 ∷ left) ys → Decides r (s ≡ 0 ∷ []) → Decides r (xs ≡ ys)
+is_through r xs left same s ys after d = (λ t. sym same ∙ only_same left ys (sym after ∙ d.0 t), λ q. d.1 (after ∙ all_same left ys (same ∙ q)))
 
 -- ---- a string is not longer than its text
 

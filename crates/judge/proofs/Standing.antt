@@ -1,9 +1,8 @@
--- A row of a list and the spot at which it stands, for a loop over what was read.
-use Rattle.std.proofs.Common.{◌≡◌, ℕ, ◌+◌, ◌<◌, List, [], ◌∷◌, ◌++◌, length, get_or, take, sym, refl, ap, ◌∙◌, subst, inl, inr}
-use Rattle.std.proofs.lemmas.List.{get_or_default}
+-- A row of a list and the spot at which it stands, for a search of what was read.
+use Rattle.std.proofs.Common.{◌≡◌, ℕ, ◌+◌, List, [], ◌∷◌, ◌++◌, length, take, sym, refl, ap, ◌∙◌, subst}
 use Rattle.aterm.specs.Files.{output, in_output}
 use Rattle.aterm.specs.Grammar.{Shape, Tree, meaning}
-use Rattle.aterm.specs.Reads.{Each, past}
+use Rattle.aterm.specs.Reads.{past}
 use Rattle.aterm.specs.declared.file.Output.{Output}
 use Rattle.aterm.specs.declared.file.Variable.{Variable}
 use Rattle.aterm.specs.declared.rows.Placed.{Placed}
@@ -13,7 +12,8 @@ use Rattle.canonical.proofs.Spans.{span_means}
 use Rattle.derivation.specs.Asked.{FirstNo, rows_at}
 use Rattle.derivation.specs.declared.field.Field.{Field}
 use Rattle.derivation.specs.declared.spot.Spot.{Spot}
-use Rattle.derivation.proofs.Scan.{ends, rows_append, Split, split, Clean}
+use Rattle.verdict.proofs.Rows.{in_middle}
+use Rattle.derivation.proofs.Scan.{ends, rows_append, Split, Clean}
 
 -- what stands for a row that is not there
 abbrev pub blank_output : Placed Output
@@ -22,15 +22,7 @@ blank_output = record { place = 0; value = record { name = record { start = 0; e
 abbrev pub blank_variable : Placed Variable
 blank_variable = record { place = 0; value = record { name = record { start = 0; end = 0 }; value = record { start = 0; end = 0 } } }
 
-in_middle : {X : Type 0} (x : X) (xs ys : List X) → Member x (xs ++ x ∷ ys)
-in_middle x [] ys = inl refl
-in_middle x (y ∷ xs) ys = inr (in_middle x xs ys)
-
 module _ {V : Type 0} (s : Shape) (H : ℕ → V → Tree s → Type 0) where
-  -- the row at an index
-  pub split_at : (from : ℕ) (vs : List (Placed V)) (xs : List (Tree s)) (i : ℕ) (d : Placed V) → i < length vs → Each s H from vs xs → Split s H from vs xs i (get_or vs i d)
-  split_at from vs xs i d h a = split s H from vs xs i h (get_or vs i d) (get_or_default vs i d (get_or vs i d) h) a
-
   module _ (field : Field) (from : ℕ) (vs : List (Placed V)) (xs : List (Tree s)) (i : ℕ) (v : Placed V) (r : Split s H from vs xs i v) where
     abbrev pub spot : Spot
     spot = record { field = field; row = i + 1; place = v.place }

@@ -1,10 +1,9 @@
 -- What a sink means that holds what is written against what a string of a text means.
 -- Source: this project's own rule (docs/CALLS.md, "Verdict"), over the definition of a sink (docs/FORMATS.md, "Sinks").
-use Rattle.std.specs.Prelude.{ℕ, ◌-◌, ◌%◌, ◌^◌, ◌<◌, cond, List, [], ◌∷◌, Some, None, Option, ◌==◌}
-use Rattle.std.proofs.Common.{arith}
+use Rattle.std.specs.Prelude.{ℕ, cond, List, [], ◌∷◌, Some, None, Option, ◌==◌}
 use Rattle.aterm.specs.Meaning.{meant_left}
 use Rattle.aterm.specs.declared.meant.Meant.{Meant}
-use Rattle.sink.specs.Write.{Step, Held}
+use Rattle.sink.specs.Write.{Step}
 
 -- a state has a number and the bytes to come, and nothing once another byte came
 abbrev pub matching : Step
@@ -16,14 +15,3 @@ matching (f ∷ x ∷ xs) b = cond (x == b) (f ∷ xs) []
 abbrev pub expected : Option Meant → List ℕ
 expected None = []
 expected (Some rest) = 0 ∷ meant_left rest
-
--- a sink that took so many bytes; it takes as many as a count of 128 bits holds
-abbrev pub matched : List ℕ → ℕ → Held
-matched state count = record {
-  meaning = record { state = state; remaining = 2 ^ 128 - 1 - count; total = count % (2 ^ 64) };
-  space = [];
-  loan = 0;
-}
-
-pub matched_wraps : (state : List ℕ) (count : ℕ) → (matched state count).meaning.total < 2 ^ 64
-matched_wraps state count = omega arith

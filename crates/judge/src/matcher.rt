@@ -1,45 +1,34 @@
-// A sink that holds what is written against a string of the text.
-ghost use Rattle.std.specs.Prelude.{◌≡◌, [], ◌∷◌, Decides};
+// A string of the text held against what is written.
+ghost use Rattle.std.specs.Prelude.{◌≡◌, [], ◌∷◌, Some, Decides};
 ghost use Rattle.right_paths.specs.Views.{said_by};
-ghost use Rattle.sink.specs.Write.{steps};
-ghost use Rattle.judge.specs.Matching.{matching, expected, matched, matched_wraps};
+ghost use Rattle.judge.specs.Matching.{matching, expected};
 
 use aterm::Meant;
+use canonical::{Watch, Watcher};
 use right_paths::Said;
-use sink::{Full, Sink, ToSink};
+use sink::ToSink;
 
-// `rest` is what is still to come of the string; None once another byte was written.
+// What is still to come of the string; None once another byte was written.
 #[derive(Clone, Copy)]
-pub struct Matcher<'a> {
-    rest: Option<Meant<'a>>,
-    count: u128,
+struct Rest<'a> {
+    to_come: Option<Meant<'a>>,
 }
 
-// What is still to come of the string after these bytes.
-fn pass<'a>(rest: Option<Meant<'a>>, bytes: &[u8]) -> Option<Meant<'a>>
-    ensures { expected result ≡ steps matching (expected rest.entry) bytes.now }
+// What is still to come after one more byte.
+fn pass(mut here: Meant<'_>, b: u8) -> Option<Meant<'_>>
+    ensures { expected result ≡ matching (expected (Some here.entry)) b }
 {
-    let mut here = rest?;
-    for b in bytes {
-        if here.next()? != *b {
-            return None;
-        }
-    }
-    Some(here)
+    (here.next()? == b).then_some(here)
 }
 
-impl<'a> Sink for Matcher<'a> {
+impl<'a> Watch for Rest<'a> {
     ghost step = { matching };
 
-    ghost held = { λ s. matched (expected s.rest) s.count };
+    ghost state = { λ s. expected s.to_come };
 
-    ghost wraps = { λ s. matched_wraps (expected s.rest) s.count };
-
-    fn write(&mut self, bytes: &[u8]) -> Result<(), Full> {
-        let count = self.count.checked_add(bytes.len() as u128).ok_or(Full)?;
-        self.rest = pass(self.rest, bytes);
-        self.count = count;
-        Ok(())
+    fn after(self, b: u8) -> Rest<'a> {
+        let to_come = self.to_come.and_then(|here| pass(here, b));
+        Rest { to_come }
     }
 }
 
@@ -47,23 +36,15 @@ impl<'a> Sink for Matcher<'a> {
 fn is_through(rest: Option<Meant<'_>>) -> bool
     ensures { Decides result (expected rest.entry ≡ 0 ∷ []) }
 {
-    match rest {
-        Some(mut here) => here.next().is_none(),
-        None => false,
-    }
+    rest.is_some_and(|mut here| here.next().is_none())
 }
 
 // Whether a string of the text means what `what` writes.
 pub fn means<T: ToSink>(string: Said<'_>, what: &T) -> bool
     ensures { Decides result (said_by string.entry ≡ T.ToSink.bytes what.now) }
 {
-    let mut matcher = Matcher {
-        rest: Some(string.span.meant(string.text)),
-        count: 0,
-    };
-    match what.write_to(&mut matcher) {
-        Ok(()) => is_through(matcher.rest),
-        // Nothing that stands in a text is so long.
-        Err(_) => false,
-    }
+    let to_come = Some(string.span.meant(string.text));
+    let mut matcher = Watcher::new(Rest { to_come });
+    // A watcher refuses only past 2^128 bytes, and nothing that stands in a text is so long.
+    what.write_to(&mut matcher).is_ok() && is_through(matcher.watching.to_come)
 }

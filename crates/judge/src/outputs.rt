@@ -12,46 +12,35 @@ use crate::right_outputs::RightOutputs;
 use crate::right_path::RightPath;
 use aterm::{Output, Placed, Span};
 use derivation::{Field, Spot};
-use right_paths::{OutputName, Said};
+use right_paths::{OutputName, SortedFile};
 
-// Whether `stated` means the right path of an output with this name.
-pub fn is_right(right: &RightOutputs, name: Span, stated: Span) -> bool
-    ensures { Decides result (Told right.now (said right.now.of.text.now name.start name.«end») (said right.now.of.text.now stated.start stated.«end»)) }
-{
-    let file = &right.of;
-    let text = file.text;
-    let stated_path = Said { text, span: stated };
-    let out = Said { text, span: name };
-    let outputs = file.file.outputs.as_slice();
-    for (i, output) in outputs.iter().enumerate() {
-        if out.same(output.value.name) {
-            let path = RightPath {
-                digits: right.digits[i],
-                name: OutputName {
-                    path: file.path,
-                    out,
-                },
+impl<'a> RightOutputs<'a> {
+    // Whether `stated` means the right path of an output with this name.
+    pub fn is_right(&self, name: Span, stated: Span) -> bool
+        ensures { Decides result (Told self.now (said self.now.of.text.now name.start name.«end») (said self.now.of.text.now stated.start stated.«end»)) }
+    {
+        let SortedFile { path, file, .. } = self.of;
+        let stated = self.of.said(stated);
+        let out = self.of.said(name);
+        let outputs = file.outputs.as_slice();
+        outputs.iter().zip(self.digits).any(|(output, digits)| {
+            let right = RightPath {
+                digits: *digits,
+                name: OutputName { path, out },
             };
-            if means(stated_path, &path) {
-                return true;
-            }
-        }
+            out.same(output.value.name) && means(stated, &right)
+        })
     }
-    false
-}
 
-// Where the first output row stands that states another path.
-pub fn first_wrong_output(right: &RightOutputs, rows: &[Placed<Output>]) -> Option<Spot>
-    ensures { Scans output (in_output right.now.of.text.now) (λ ys x. Told right.now (meaning x.0) (meaning x.1.0)) Outputs rows.now result }
-{
-    for (i, row) in rows.iter().enumerate() {
-        if !is_right(right, row.value.name, row.value.path) {
-            return Some(Spot {
-                field: Field::Outputs,
-                row: i + 1,
-                place: row.place,
-            });
-        }
+    // Where the first output row stands that states another path. An `Option`, as `find` gives it and as the questions of derivation answer.
+    // Not derivation's search, though the clause is the same: it and its trait of questions are inside derivation, and would be public for this one call.
+    pub fn first_wrong_output(&self, rows: &[Placed<Output>]) -> Option<Spot>
+        ensures { Scans output (in_output self.now.of.text.now) (λ ys x. Told self.now (meaning x.0) (meaning x.1.0)) Outputs rows.now result }
+    {
+        let (i, row) = rows
+            .iter()
+            .enumerate()
+            .find(|(_, row)| !self.is_right(row.value.name, row.value.path))?;
+        Some(Spot::of_row(Field::Outputs, i + 1, row))
     }
-    None
 }

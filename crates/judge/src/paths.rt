@@ -11,9 +11,7 @@ ghost use Rattle.store_path.specs.Names.{StorePath};
 ghost use Rattle.verdict.specs.Judged.{PathsJudged};
 ghost use Rattle.judge.specs.Judgeable.{Judgeable};
 
-use crate::outputs::first_wrong_output;
 use crate::right_outputs::RightOutputs;
-use crate::variables::first_wrong_variable;
 use aterm::Derivation;
 use canonical::first_difference;
 use right_paths::{Digits, SortedFile};
@@ -47,10 +45,10 @@ pub fn judge_paths<'a>(
         digits: outputs,
     };
     let rows = file.outputs.as_slice();
-    if let Some(spot) = first_wrong_output(&right, rows) {
+    if let Some(spot) = right.first_wrong_output(rows) {
         return Err(Fault::WrongOutput(spot));
     }
-    if let Some(spot) = first_wrong_variable(&right, rows, file.environment.as_slice()) {
+    if let Some(spot) = right.first_wrong_variable(rows, file.environment.as_slice()) {
         return Err(Fault::WrongVariable(spot));
     }
     match first_difference(sorted.text, *file) {

@@ -9,11 +9,13 @@ use Rattle.canonical.specs.Order.{Member}
 use Rattle.hash_modulo.specs.Sets.{Bytes}
 use Rattle.image.specs.Layout.{file_path, file_text, link}
 use Rattle.image.specs.Opening.{Opens, New, Every}
+use Rattle.image.specs.declared.image.File.{File}
 use Rattle.image.proofs.Opened.{text_short}
 use Rattle.store_path.specs.Names.{StorePath}
 use Rattle.store_path.proofs.Deciding.{same_text}
 use Rattle.links.specs.Laws.{FileOf, SetFinite, SetHas, SetOnly, OneNumber, PathsNamed, Among, SamePairs}
-use Rattle.links.specs.Sets.{set_of, Found}
+use Rattle.links.specs.Owners.{Stands}
+use Rattle.links.specs.Sets.{set_of, Found, FoundFile}
 
 -- no two of the first n files have the same path
 abbrev pub Apart : List ℕ → ℕ → Type 0
@@ -89,6 +91,14 @@ set_finite img n opens = (paths img n, λ p z. (let f = only img n p z.0 z.1 in 
 -- the file of a number that was found
 pub found_there : (img : List ℕ) (n : ℕ) (p : Bytes) (number : ℕ) → Found img n p (Some number) → ∥ Opens img n ∥₁ → set_of img n p ≡ Some (file_text img number)
 found_there img n p number (from, to, is) opens = has img n (apart img n opens) number from to p is
+
+-- and a file that was found at its path
+pub stands : (img : List ℕ) (n : ℕ) (p : Bytes) (number : ℕ) (file : File) → FoundFile img n p (Some (number, file)) → ∥ Opens img n ∥₁ → Stands img n number file.path.now file.text.now
+stands img n p number file (found, path, text) opens = record {
+  from = found.0;
+  named = found.2 ∙ sym path;
+  there = ap (set_of img n) path ∙ found_there img n p number found opens ∙ ap Some (sym text);
+}
 
 store_long : (p : Bytes) → StorePath p → length p ≤ 255
 store_long p s =

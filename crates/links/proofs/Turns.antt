@@ -1,6 +1,6 @@
 -- Rows that hold trees, gone through one by one.
 use Rattle.std.proofs.Common.{ℕ, zero, suc, ◌+◌, ◌<◌, Bool, true, false, List, [], ◌∷◌, length, get_or, MatchBool, Decides, refl, inl, inr, arith}
-use Rattle.std.specs.List.{AllWithin, HoldsAt}
+use Rattle.std.specs.List.{AllByRecursion, AllWithin, HoldsAt}
 use Rattle.std.proofs.ByRecursion.{all_from_every}
 use Rattle.std.proofs.lemmas.Bool.{false≢true}
 use Rattle.aterm.specs.Grammar.{Shape, Tree}
@@ -23,7 +23,7 @@ member_at [] i d h = absurd (omega arith)
 member_at (x ∷ xs) zero d h = inl refl
 member_at (x ∷ xs) (suc i) d h = inr (member_at xs i d (omega arith))
 
-some_row : {V : Type 0} (vs : List V) (k : ℕ) → k < length vs → V
+pub some_row : {V : Type 0} (vs : List V) (k : ℕ) → k < length vs → V
 some_row [] k h = absurd (omega arith)
 some_row (v ∷ vs) k h = v
 
@@ -53,4 +53,15 @@ module _ {V : Type 0} (s : Shape) (H : ℕ → V → Tree s → Type 0) (P : Tre
       λ z. absurd (member_all (λ t. P t → ⊥) xs z.0
           (all_from_every (λ t. P t → ⊥) xs (λ k d _ l. let h : k < length vs = omega (arith, each_length s H from vs xs rows) in let w = at_tree k d h in none k w.0 (omega arith) h w.1 (get_or xs k d) w.2))
           z.1 z.2),
+    )
+
+    -- whether it is yes at each of them
+    pub decides_all : (x : Tree s) (b : Bool) → MatchBool b (AllWithin Yes vs 0 (length vs)) ((k : ℕ) × (k < length vs) × HoldsAt No vs k) → Decides b (AllByRecursion P xs)
+    decides_all x true every = (
+      λ _. all_from_every P xs (λ k d _ l. let h : k < length vs = omega (arith, each_length s H from vs xs rows) in let w = at_tree k d h in every k w.0 (omega arith) h w.1 (get_or xs k d) w.2),
+      λ _. refl,
+    )
+    decides_all x false (k, l, not) = (
+      λ e. absurd (false≢true e),
+      λ every. absurd (let w = at_tree k x l in not w.0 w.1 (get_or xs k x) w.2 (member_all P xs (get_or xs k x) every (member_at xs k x (omega (arith, each_length s H from vs xs rows))))),
     )

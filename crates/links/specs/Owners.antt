@@ -1,6 +1,6 @@
 -- Whether a file owns the outputs that an input row of another file wants of it, by the bytes of their names.
 -- Source: this project's own rule (docs/CALLS.md, "Verdict").
-use Rattle.std.specs.Prelude.{◌≡◌, ℕ, ◌⊎◌, Bool, List, map, Some, None, Decides}
+use Rattle.std.specs.Prelude.{◌≡◌, ℕ, ◌≤◌, ◌⊎◌, Bool, List, map, Some, None, Decides}
 use Rattle.std.specs.List.{AllByRecursion}
 use Rattle.aterm.specs.Files.{output, in_output, span}
 use Rattle.aterm.specs.Grammar.{Tree, string, raw, meaning}
@@ -11,6 +11,7 @@ use Rattle.aterm.specs.declared.rows.Placed.{Placed}
 use Rattle.canonical.specs.Order.{Member}
 use Rattle.derivation.specs.Plain.{AsItStands}
 use Rattle.hash_modulo.specs.Sets.{Bytes, Owned}
+use Rattle.image.specs.Layout.{file_path}
 use Rattle.links.specs.Sets.{set_of, Found}
 
 -- one of the outputs has this name
@@ -24,6 +25,16 @@ NamesAre text vs ns = (from : ℕ) × Each string (λ p v. span text v p) from v
 -- these are the outputs of some tree of the text
 abbrev pub OutputsAre : Bytes → List (Placed Output) → List (Tree output) → Type 0
 OutputsAre text vs os = (from : ℕ) × Each output (in_output text) from vs os
+
+-- r says whether one of these outputs has this name
+pub record NameOwned (text : Bytes) (vs : List (Placed Output)) (n : Bytes) (r : Bool) : Type 0 where
+  pub right : (os : List (Tree output)) → OutputsAre text vs os → Decides r (OwnsOutput os n)
+
+-- the file of this number among the first n has this path and this text, and no other of them has the path
+pub record Stands (img : Bytes) (n number : ℕ) (path text : Bytes) : Type 0 where
+  pub from : 1 ≤ number
+  pub named : file_path img number ≡ path
+  pub there : set_of img n path ≡ Some text
 
 -- r says whether the file of this number among the first n, if it reads, owns the outputs of these names; a file that is not there is asked for as 0, and owns what is wanted
 abbrev pub OwnedBy : Bytes → ℕ → ℕ → Bytes → List (Placed Span) → Bool → Type 0

@@ -4,6 +4,7 @@ use Rattle.std.specs.Prelude.{◌≡◌, ℕ, zero, suc, ◌≤◌, cond, List, 
 use Rattle.std.specs.Str.{bytes_eq}
 use Rattle.hash_modulo.specs.Sets.{Bytes, Files}
 use Rattle.image.specs.Layout.{file_path, file_text}
+use Rattle.image.specs.declared.image.File.{File}
 
 -- the set of the first n files of an image, by their paths
 abbrev pub set_of : List ℕ → ℕ → Files
@@ -18,3 +19,8 @@ Nowhere img n p = (k : ℕ) → 1 ≤ k → k ≤ n → file_path img k ≢ p
 abbrev pub Found : List ℕ → ℕ → Bytes → Option ℕ → Type 0
 Found img n p None = Nowhere img n p
 Found img n p (Some number) = (1 ≤ number) × (number ≤ n) × (file_path img number ≡ p)
+
+-- the same with the file
+abbrev pub FoundFile : List ℕ → ℕ → Bytes → Option (ℕ × File) → Type 0
+FoundFile img n p None = Nowhere img n p
+FoundFile img n p (Some (number, file)) = Found img n p (Some number) × (file.path.now ≡ p) × (file.text.now ≡ file_text img number)

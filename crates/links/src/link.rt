@@ -9,7 +9,8 @@ pub struct Link {
 }
 
 // Of a file that reads: for each of its input rows, in text order, a link where the row names a file. They are the first `count` of `rows`.
-// A table with a length: the library crates use no heap.
+// A table with a length: callers have it from the public `LinkTable::get` by value, as a `Copy` type with these fields, and an `ArrayVec` is not `Copy`.
+// The length stands as a fact too: checker's proofs take it of any `Links`, without what the code knows of an array.
 #[derive(Clone, Copy)]
 pub struct Links {
     pub rows: [Option<Link>; 64],

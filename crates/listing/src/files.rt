@@ -15,10 +15,7 @@ use sink::{DigestSink, Full, Sink, ToSink, digest_of, write_decimal};
 fn judge(file: File<'_>) -> Told
     ensures { Tells file.entry.path.now file.entry.text.now result }
 {
-    match read_file(file.path, file.text) {
-        Ok(_) => Told::default(),
-        Err(fault) => fault.into(),
-    }
+    read_file(file.path, file.text).into()
 }
 
 // The line of a file, whose digest no sink refuses.
@@ -48,7 +45,7 @@ fn write_last<S: Sink>(out: &mut S, files: usize) -> Result<(), Full>
     ensures { Writes S.step (S.held out.old) (last_line files) result (S.held out.new) }
 {
     out.write(b"files ")?;
-    write_decimal(out, files as u64)?;
+    write_decimal(out, files)?;
     out.write(b"\n")
 }
 

@@ -26,7 +26,7 @@ fn open_input(bytes: &[u8]) -> Result<Image<'_>, Refusal>
 }
 
 // The whole listing of what was read: the line of its refusal, or a line a file and their number.
-// `out` and `digest` stay two parameters: two sinks of two types, which the caller lends.
+// `out` and `digest` stay two parameters, here and below: the caller lends two sinks of two types, and a struct would have to be made of them here, for `write_files` and `write_file` alone.
 pub fn list<D: DigestSink, S: Sink>(out: &mut S, digest: &mut D, bytes: &[u8]) -> Result<(), Full>
     ensures { Listing S.Sink.step (S.Sink.held out.old) (digest_by D.Sink.step D.DigestSink.start D.DigestSink.answered) bytes.now result (S.Sink.held out.new) }
 {

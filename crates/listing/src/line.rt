@@ -20,7 +20,7 @@ impl<'a> ToSink for Line<'a> {
     ghost bytes = { λ s. file_line s.number s.told s.digest s.path.now };
 
     fn write_to<S: Sink>(&self, sink: &mut S) -> Result<(), Full> {
-        write_decimal(sink, self.number as u64)?;
+        write_decimal(sink, self.number)?;
         write_told(sink, self.told)?;
         sink.write(b" ")?;
         write_hex(sink, &self.digest)?;

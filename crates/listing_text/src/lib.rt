@@ -21,6 +21,7 @@ pub fn listing_of<D: DigestSink>(
 ) -> anyhow::Result<Vec<u8>>
     ensures { IfOk result (λ text. IsListing (digest_by D.Sink.step D.DigestSink.start D.DigestSink.answered) bytes.now text.items) }
 {
+    // The longest there can be, and then cut: a sink over a growing vector would have to tell want of memory beside `Full`.
     let mut text = vec![in heap; 0u8; LONGEST_LISTING]?;
     let Ok(count) = list_into(&mut text, digest, bytes) else {
         return Err(anyhow!("the listing is too long"));

@@ -11,18 +11,9 @@ use file_meaning::{Unwritten, write_canonical_file};
 use sample::make;
 use sink::BufferWriter;
 use std::env;
+use test_input::{number, repeat};
 
 const PATH: &[u8] = b"/nix/store/0123456789abcdfghijklmnpqrsvwxyz-bench.drv";
-
-// Takes a step so many times, once at least, and answers what the last one does.
-fn repeat<E: Drop, F: FnMut() -> Result<usize, E>>(times: usize, mut step: F) -> Result<usize, E>
-    requires { F.IsAlwaysCallable step }
-{
-    for _ in 1..times {
-        step()?;
-    }
-    step()
-}
 
 fn read_once(text: &[u8]) -> Result<usize, FileFault> {
     let file = read_file(PATH, text)?;
@@ -45,14 +36,6 @@ fn rewrite(rt: &HostRuntime, text: &[u8], times: usize) -> anyhow::Result<usize>
     repeat(times, || rewrite_once(text, &mut room)).map_err(|_| anyhow!("the text is not written"))
 }
 
-// The number that an argument gives, or the one that holds without it.
-fn number(rt: &HostRuntime, at: usize, without: usize) -> anyhow::Result<usize> {
-    match env::args(rt)?.nth(at) {
-        Some(text) => Ok(text.parse::<usize>()?),
-        None => Ok(without),
-    }
-}
-
 fn wants_rewrite(rt: &HostRuntime) -> anyhow::Result<bool> {
     let kind = env::args(rt)?.nth(2);
     Ok(kind.is_some_and(|text| text.as_str() == "rewrite"))
@@ -60,8 +43,8 @@ fn wants_rewrite(rt: &HostRuntime) -> anyhow::Result<bool> {
 
 // A text has at most 256 KiB.
 fn run(rt: &HostRuntime) -> anyhow::Result<()> {
-    let size = number(rt, 1, 64)?.min(255) * 1024;
-    let times = number(rt, 3, 1)?;
+    let size = number(env::args(rt)?.nth(1), 64usize)?.min(255) * 1024;
+    let times = number(env::args(rt)?.nth(3), 1)?;
     let made = make(rt.alloc(), size)?;
     let text = made.as_bytes();
     let count = if wants_rewrite(rt)? {

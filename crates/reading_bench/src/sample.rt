@@ -3,7 +3,7 @@ use std::alloc::Global;
 use std::fmt::Write;
 
 // A store path up to its name; the number stands in its digits.
-fn push_store(to: &mut String, n: usize) -> anyhow::Result<()> {
+fn push_store(to: &mut String, n: u32) -> anyhow::Result<()> {
     write!(to, "/nix/store/{n:03}3456789abcdfghijklmnpqrsvwxyz-")?;
     Ok(())
 }
@@ -18,7 +18,7 @@ fn push_place(to: &mut String, i: usize) -> anyhow::Result<()> {
     Ok(())
 }
 
-// A string of so many places after one that is escaped without need.
+// A string of so many places after one that is escaped without need. What stands at a place is made of its number.
 fn push_string(to: &mut String, count: usize) -> anyhow::Result<()> {
     to.push_str("\"\\-")?;
     for i in 0..count {
@@ -28,56 +28,46 @@ fn push_string(to: &mut String, count: usize) -> anyhow::Result<()> {
     Ok(())
 }
 
-// A comma before each row but the first.
-fn push_comma(to: &mut String, row: usize) -> anyhow::Result<()> {
-    if row > 0 {
-        to.push(',')?;
+// So many items with commas between them. What an item says is made of its number: there is no other list to go through.
+fn push_list<F: FnMut(&mut String, u8) -> anyhow::Result<()>>(
+    to: &mut String,
+    count: u8,
+    mut push_item: F,
+) -> anyhow::Result<()>
+    requires { F.IsAlwaysCallable push_item }
+{
+    for i in 0..count {
+        if i > 0 {
+            to.push(',')?;
+        }
+        push_item(to, i)?;
     }
     Ok(())
 }
 
-// 16 input rows, not sorted. The numbers of this and the lists below stand in the text itself.
-fn push_inputs(to: &mut String) -> anyhow::Result<()> {
-    for i in 0..16usize {
-        push_comma(to, i)?;
-        to.push_str("(\"")?;
-        push_store(to, i * 5 % 16)?;
-        to.push_str("input.drv\",[\"out\",\"dev\"])")?;
-    }
+fn push_input(to: &mut String, i: u8) -> anyhow::Result<()> {
+    to.push_str("(\"")?;
+    push_store(to, u32::from(i) * 5 % 16)?;
+    to.push_str("input.drv\",[\"out\",\"dev\"])")?;
     Ok(())
 }
 
-// 16 sources, not sorted.
-fn push_sources(to: &mut String) -> anyhow::Result<()> {
-    for i in 0..16usize {
-        push_comma(to, i)?;
-        to.push('"')?;
-        push_store(to, i * 7 % 16)?;
-        to.push_str("source\"")?;
-    }
+fn push_source(to: &mut String, i: u8) -> anyhow::Result<()> {
+    to.push('"')?;
+    push_store(to, u32::from(i) * 7 % 16)?;
+    to.push_str("source\"")?;
     Ok(())
 }
 
-// 64 arguments.
-fn push_arguments(to: &mut String, count: usize) -> anyhow::Result<()> {
-    for i in 0..64usize {
-        push_comma(to, i)?;
-        push_string(to, count)?;
-    }
+fn push_variable(to: &mut String, i: u8, count: usize) -> anyhow::Result<()> {
+    let number = u32::from(i) * 37 % 128;
+    write!(to, "(\"v{number:03}\",")?;
+    push_string(to, count)?;
+    to.push(')')?;
     Ok(())
 }
 
-// 128 environment rows, not sorted.
-fn push_environment(to: &mut String, count: usize) -> anyhow::Result<()> {
-    for i in 0..128usize {
-        push_comma(to, i)?;
-        write!(to, "(\"v{:03}\",", i * 37 % 128)?;
-        push_string(to, count)?;
-        to.push(')')?;
-    }
-    Ok(())
-}
-
+// 16 inputs, 16 sources and 128 variables, none of them sorted, and 64 arguments.
 // What stands beside the bytes of the arguments and the environment's values is about 23 bytes to each of their 192 strings;
 // one place in 20 of a string is an escape of two bytes.
 pub fn make(heap: Global, size: usize) -> anyhow::Result<String> {
@@ -87,13 +77,13 @@ pub fn make(heap: Global, size: usize) -> anyhow::Result<String> {
     made.push_str("Derive([(\"out\",\"")?;
     push_store(&mut made, 0)?;
     made.push_str("bench\",\"\",\"\")],[")?;
-    push_inputs(&mut made)?;
+    push_list(&mut made, 16, push_input)?;
     made.push_str("],[")?;
-    push_sources(&mut made)?;
+    push_list(&mut made, 16, push_source)?;
     made.push_str("],\"x86_64-linux\",\"/bin/sh\",[")?;
-    push_arguments(&mut made, count)?;
+    push_list(&mut made, 64, |to, _| push_string(to, count))?;
     made.push_str("],[")?;
-    push_environment(&mut made, count)?;
+    push_list(&mut made, 128, |to, i| push_variable(to, i, count))?;
     made.push_str("])")?;
     Ok(made)
 }

@@ -2,14 +2,13 @@
 // The cases stand in stdin, what is expected in stdout.
 #![tactic(auto)]
 
+use anyhow::anyhow;
 use aterm::Derivation;
-use canonical::first_difference;
+use canonical::{first_difference, write_canonical};
 use derivation::{Told, read_file};
-use file_meaning::write_canonical_file;
 use sha256::Sha256;
 use sink::DigestSink;
-use std::io::{BufRead, BufReader};
-use test_input::{Hex, decode};
+use test_input::{Hex, decode, each_line};
 
 // A file under the name of its case.
 #[derive(Clone, Copy)]
@@ -20,19 +19,13 @@ struct Case<'a> {
 }
 
 impl<'a> Case<'a> {
-    // The SHA-256 of the canonical text, which goes straight into the digest.
-    fn digest_canonical(&self) -> Option<[u8; 32]> {
-        let mut digest = Sha256::new();
-        write_canonical_file(self.path, self.text, &mut digest).ok()?;
-        Some(digest.answer())
-    }
-
+    // The canonical text goes straight into the digest.
     fn show_canonical(&self, rt: &HostRuntime, file: Derivation) -> anyhow::Result<()> {
-        let name = self.name;
-        print!(rt; "{name} reads ")?;
-        if let Some(digest) = self.digest_canonical() {
-            print!(rt; "{}", Hex(&digest))?;
-        }
+        let mut digest = Sha256::new();
+        write_canonical(self.text, file, &mut digest).map_err(|_| anyhow!(
+            "the canonical text is too long for SHA-256"
+        ))?;
+        print!(rt; "{} reads {}", self.name, Hex(&digest.answer()))?;
         match first_difference(self.text, file) {
             None => println!(rt; " canonical")?,
             Some(place) => println!(rt; " differs {place}")?,
@@ -67,14 +60,6 @@ fn show(rt: &HostRuntime, line: &str) -> anyhow::Result<()> {
     case.show(rt)
 }
 
-fn run(rt: &HostRuntime) -> anyhow::Result<()> {
-    for line in BufReader::new(rt.alloc(), rt.stdin())?.lines(rt.alloc()) {
-        let line = line?;
-        show(rt, line.as_str())?;
-    }
-    Ok(())
-}
-
 fn main(rt: HostRuntime) -> anyhow::Result<()> {
-    run(&rt)
+    each_line(rt.alloc(), rt.stdin(), |line| show(&rt, line))
 }

@@ -1,11 +1,13 @@
 -- The recorder's count and table in closed form: the number of the bytes, and the first 4,096 of them before zeros.
-use Rattle.std.proofs.Common.{◌≡◌, ℕ, ◌+◌, ◌≤◌, min, List, [], ◌∷◌, ◌++◌, length, get_or, take, drop, Ok, Err, Result, sym, refl, ap, ◌∙◌, subst, append_assoc, arith}
-use Rattle.std.proofs.lemmas.List.{set_past, set_at, length_push, length-take, take_at, append-nil}
+use Rattle.std.proofs.Common.{◌≡◌, ℕ, ◌+◌, ◌-◌, ◌≤◌, min, List, [], ◌∷◌, ◌++◌, length, get_or, take, drop, Ok, Err, Result, sym, refl, ap, ◌∙◌, subst, append_assoc, ⊎_elim, arith}
+use Rattle.std.proofs.lemmas.Bool.{cases_lt}
+use Rattle.std.proofs.lemmas.List.{set_past, set_at, length_push, length-take, length-take-le, length-drop, take_at, take_all, drop_all, take-append-drop, append-nil}
+use borrow.Rule.Slice.PartMut.{put_mid}
 use Rattle.recorder.specs.Record.{counted, counts, laid, zeros, Copied, Kept, First, TakenKept}
 use Rattle.sink.specs.Write.{Step, steps}
 use Rattle.recorder.proofs.Records.{length_zeros, length_laid, steps_recording}
 
-counts_is : (c : ℕ) (bs : List ℕ) → c ≤ 4294967295 → counts c bs ≡ min (c + length bs) 4294967295
+pub counts_is : (c : ℕ) (bs : List ℕ) → c ≤ 4294967295 → counts c bs ≡ min (c + length bs) 4294967295
 counts_is c [] le = omega arith
 counts_is c (b ∷ bs) le = counts_is (counted c) bs (omega arith) ∙ omega arith
 
@@ -14,6 +16,11 @@ over : List ℕ → List ℕ → List ℕ
 over q [] = q
 over [] (b ∷ bs) = []
 over (x ∷ q) (b ∷ bs) = b ∷ over q bs
+
+over_none : (bs : List ℕ) → over [] bs ≡ []
+unfolding over
+over_none [] = refl
+over_none (b ∷ bs) = refl
 
 over_is : (q bs : List ℕ) → over q bs ≡ take (length q) bs ++ drop (length bs) q
 unfolding over
@@ -39,6 +46,42 @@ laid_over p (x ∷ q) (b ∷ bs) c at small =
     ap (λ (v : List ℕ). laid v (counted c) bs) (set_at p x q b c at ∙ sym (append_assoc p (b ∷ []) q))
     ∙ laid_over (p ++ (b ∷ [])) q bs (counted c) next fits
     ∙ append_assoc p (b ∷ []) (over q bs)
+
+-- the bytes that fit, before what is left of the table
+over_fits : (q bs : List ℕ) (n : ℕ) → n ≡ min (length bs) (length q) → take n bs ++ drop n q ≡ over q bs
+over_fits q bs n e = ⊎_elim
+    (λ l.
+    let same : n ≡ length q = omega arith in
+    ap (λ (k : ℕ). take k bs ++ drop k q) same
+    ∙ ap (λ (v : List ℕ). take (length q) bs ++ v) (drop_all (length q) q (omega arith) ∙ sym (drop_all (length bs) q (omega arith)))
+    ∙ sym (over_is q bs))
+    (λ l.
+    let same : n ≡ length bs = omega arith in
+    ap (λ (k : ℕ). take k bs ++ drop k q) same
+    ∙ ap (λ (v : List ℕ). v ++ drop (length bs) q) (take_all (length bs) bs (omega arith) ∙ sym (take_all (length q) bs (omega arith)))
+    ∙ sym (over_is q bs))
+    (cases_lt (length q) (length bs))
+
+-- a copy of as many bytes as fit, at the place of the count
+pub laid_mid : (t bs xs : List ℕ) (c at n : ℕ) → length t ≡ 4096 → c ≤ 4294967295 → at ≡ min c 4096 → n ≡ min (length bs) (4096 - at) → xs ≡ take n bs → put_mid at (at + n - at) t xs ≡ laid t c bs
+laid_mid t bs xs c at n long small place many front =
+    let q : List ℕ = drop at t in
+    let rest : length q ≡ 4096 - at = length-drop at t ∙ omega arith in
+    let count : at + n - at ≡ n = omega arith in
+    (λ i. take at t ++ (front i ++ drop (count i) q))
+    ∙ ap (λ (v : List ℕ). take at t ++ v) (over_fits q bs n (omega arith))
+    ∙ ⊎_elim
+    (λ l.
+    let here : at ≡ c = omega arith in
+    sym (laid_over (take at t) q bs c (length-take-le at t (omega arith) ∙ here) (omega (arith, length-take-le at t (omega arith))))
+    ∙ ap (λ (v : List ℕ). laid v c bs) (take-append-drop at t))
+    (λ l.
+    ap (λ (v : List ℕ). take at t ++ over v bs) (drop_all at t (omega arith))
+    ∙ ap (λ (v : List ℕ). take at t ++ v) (over_none bs)
+    ∙ append-nil (take at t)
+    ∙ take_all at t (omega arith)
+    ∙ sym (laid_full t c bs (omega arith) (omega arith)))
+    (cases_lt c 4096)
 
 first_count : (bs : List ℕ) → counts 0 bs ≡ min (length bs) 4294967295
 first_count bs = counts_is 0 bs (omega arith) ∙ omega arith

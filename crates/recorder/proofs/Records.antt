@@ -1,6 +1,6 @@
 -- What a recorder keeps while the sink below takes the bytes.
-use Rattle.std.proofs.Common.{◌≡◌, ℕ, ◌+◌, ◌<◌, ◌≤◌, List, [], ◌∷◌, ◌++◌, length, get_or, take, drop, set, sym, refl, ap, ◌∙◌, length-set}
-use Rattle.std.proofs.lemmas.List.{take_at, drop_at, at_drop_more, set_past, length-replicate}
+use Rattle.std.proofs.Common.{◌≡◌, ℕ, List, [], ◌∷◌, ◌++◌, length, take, drop, set, sym, refl, ap, ◌∙◌, length-set}
+use Rattle.std.proofs.lemmas.List.{take_at, drop_at, length-replicate}
 use Rattle.sink.specs.Write.{Step, Meaning, Held, steps, filled, Taken}
 use Rattle.sink.specs.Digest.{Begins}
 use Rattle.recorder.specs.Record.{recording, recorded, recorded_start, recorded_answer, zeros, counted, counts, laid, SameDigest}
@@ -39,17 +39,6 @@ recorded_taken f c c' t t' bs h k long count table (left, e) =
           (ap (λ (x : Held). x.space) e)
           (ap (λ (x : Held). x.loan) e),
     )
-
--- a turn of the loop that keeps the bytes: the table is written only where the count lies within it
-pub laid_more : (t : List ℕ) (c : ℕ) (bs : List ℕ) (i : ℕ) → i < length bs → laid t c (drop i bs) ≡ laid (set t c (get_or bs i 0)) (counted c) (drop (i + 1) bs)
-laid_more t c bs i within = at_drop_more (laid t c) bs i 0 within
-
-pub laid_past : (t : List ℕ) (c : ℕ) (bs : List ℕ) (i : ℕ) → i < length bs → length t ≤ c → laid t c (drop i bs) ≡ laid t (counted c) (drop (i + 1) bs)
-laid_past t c bs i within past =
-    laid_more t c bs i within ∙ ap (λ (v : List ℕ). laid v (counted c) (drop (i + 1) bs)) (set_past t c (get_or bs i 0) past)
-
-pub counts_more : (c : ℕ) (bs : List ℕ) (i : ℕ) → i < length bs → counts c (drop i bs) ≡ counts (counted c) (drop (i + 1) bs)
-counts_more c bs i within = at_drop_more (counts c) bs i 0 within
 
 pub recorded_begun : (start : List ℕ) (capacity c c' : ℕ) (t t' : List ℕ) (h k : Held) → c' ≡ 0 → t' ≡ zeros 4096 → Begins start capacity h.meaning k.meaning
     → Begins (recorded_start start) capacity (recorded c t h).meaning (recorded c' t' k).meaning

@@ -35,13 +35,13 @@ impl<S: DigestSink> DigestSink for Recorder<S> {
 
     ghost answered = { recorded_answer S.DigestSink.answered };
 
-    // Besides what every digest sink promises: D is that of the sink below.
+    // Besides what every digest sink promises: the digest of a string is that of the sink below.
     fn begin(&mut self)
         ensures begins { Begins (recorded_start S.DigestSink.start) S.DigestSink.capacity (holding S.Sink.held self.old).meaning (holding S.Sink.held self.new).meaning }
         ensures below { SameDigest S.Sink.step S.DigestSink.start S.DigestSink.answered }
     {
         self.below.begin();
-        self.table.clear();
+        self.table = Table::default();
     }
 
     fn answer(&self) -> [u8; 32] {
@@ -54,7 +54,7 @@ impl<S: DigestSink> Recorder<S> {
         ensures { (result.table.count ≡ 0) × (result.table.bytes ≡ zeros 4096) × (result.below ≡ below) }
     {
         Recorder {
-            table: Table::blank(),
+            table: Table::default(),
             below,
         }
     }

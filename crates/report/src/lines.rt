@@ -2,7 +2,7 @@
 ghost use Rattle.report.specs.Texts.{line_text, tail_text, refused_text};
 
 use crate::columns::{write_column, write_state};
-use crate::percent::{percent_of, write_hundredfold};
+use crate::percent::percent_of;
 use derivation::Told;
 use sink::{Full, Sink, ToSink, write_decimal};
 
@@ -17,7 +17,7 @@ impl ToSink for FileLine {
     ghost bytes = { λ s. line_text s.number s.told };
 
     fn write_to<S: Sink>(&self, sink: &mut S) -> Result<(), Full> {
-        write_decimal(sink, self.number as u64)?;
+        write_decimal(sink, self.number)?;
         write_state(sink, self.told)?;
         sink.write(b"\n")
     }
@@ -34,10 +34,9 @@ impl ToSink for Summary {
     ghost bytes = { λ s. tail_text s.files s.accepted };
 
     fn write_to<S: Sink>(&self, sink: &mut S) -> Result<(), Full> {
-        write_decimal(sink, self.files as u64)?;
-        write_column(sink, self.accepted as u64)?;
-        sink.write(b" ")?;
-        write_hundredfold(sink, percent_of(self.files, self.accepted))?;
+        write_decimal(sink, self.files)?;
+        write_column(sink, self.accepted)?;
+        write_column(sink, percent_of(self.files, self.accepted))?;
         sink.write(b"\n")
     }
 }
@@ -54,8 +53,8 @@ impl ToSink for RefusedLine {
 
     fn write_to<S: Sink>(&self, sink: &mut S) -> Result<(), Full> {
         sink.write(b"refused ")?;
-        write_decimal(sink, self.number as u64)?;
-        write_column(sink, self.slot as u64)?;
+        write_decimal(sink, self.number)?;
+        write_column(sink, self.slot)?;
         sink.write(b"\n")
     }
 }

@@ -1,40 +1,30 @@
--- One more row with its names.
-use Rattle.std.proofs.Common.{◌≡◌, ℕ, ◌+◌, ◌<◌, ◌≤◌, List, [], ◌∷◌, ◌++◌, map, length, get_or, take, set, sym, ap, ◌∙◌, arith}
-use Rattle.std.proofs.lemmas.List.{take_more_set, map_push, map_more, get_or-map, get_or-take, length-take-le}
-use Rattle.aterm.specs.declared.file.Input.{Input}
-use Rattle.aterm.specs.declared.rows.Placed.{Placed}
-use Rattle.canonical.specs.Files.{values, input_value}
-use Rattle.hash_rows.specs.Rows.{key}
-use Rattle.hash_rows.specs.declared.hash.HashRow.{HashRow}
-use Rattle.hash_modulo.specs.Sets.{Row}
-use Rattle.sink.specs.Numerals.{hex}
-use Rattle.right_paths.specs.Inputs.{hash_input_value}
-use Rattle.right_paths.specs.Numbered.{named}
-use Rattle.right_paths.specs.declared.hash_input.HashInput.{HashInput}
+-- The rows of a table, each with its names, in an array that a closure made.
+use Rattle.std.proofs.Common.{◌≡◌, ℕ, zero, suc, ◌+◌, ◌<◌, ◌≤◌, List, map, length, get_or, take, sym, ap, ◌∙◌, subst, inl, inr, arith}
+use Rattle.std.specs.Array.{IsFromFnResult, IsFromFnResultFrom}
+use Rattle.std.specs.Fn.{Called, Mut}
+use Rattle.std.proofs.lemmas.Bool.{cases_eq}
+use Rattle.std.proofs.lemmas.List.{ext_get_or, get_or-map, get_or-take, length-map, length-take-le}
 
--- the row of the table, with the names of the input p
-abbrev pub row_with : HashRow → Placed Input → Placed HashInput
-row_with x p = record { place = 0; value = record { hash = x.hash; names = p.value.names } }
+-- what each call gives stands at its place
+module _ {F X : Type 0} {g : Mut F (ℕ × Unit {0}) X} {f : F} (ys : List X) (P : ℕ → X → Type 0) (law : (i : ℕ) (y : X) (q : F) → Called g f (i, tt) y q → (q ≡ f) × P i y) (d : X) where
+  made_from : (n i : ℕ) → IsFromFnResultFrom g f ys i n → (k : ℕ) → i ≤ k → k < i + n → P k (get_or ys k d)
+  made_from zero i t k low high = absurd (omega arith)
+  made_from (suc n) i (q, y, at, called, rest) k low high =
+      let told = law i y q called in
+      elim (cases_eq k i) [
+        | inl same ↦ subst (λ (j : ℕ). P j (get_or ys j d)) (sym same) (subst (P i) (sym (at.1 d)) told.1)
+        | inr other ↦ made_from n (i + 1) (subst (λ p. IsFromFnResultFrom g p ys (i + 1) n) told.0 rest) k (omega arith) (omega arith)
+      ]
 
--- the first n of these rows are the inputs
-module _ (t : List ℕ) (rows : List (Placed Input)) (n : ℕ) (within : n ≤ length rows) where
-  abbrev inputs : List Row
-  inputs = values (input_value t) (take n rows)
-
-  row_named : (x : HashRow) (p : Placed Input) → x.row < n → hash_input_value t (row_with x (get_or rows x.row p)).value ≡ named inputs x
-  row_named x p l =
-      let many = length-take-le n rows within in
-      let a : get_or inputs x.row ([], []) ≡ input_value t (get_or (take n rows) x.row p).value = get_or-map (λ (v : Placed Input). input_value t v.value) (take n rows) x.row p ([], []) (omega arith) in
-      let b : get_or (take n rows) x.row p ≡ get_or rows x.row p = get_or-take n rows x.row p l in
-      ap (λ (r : Row). (hex (key x), r.1)) (sym (a ∙ ap (λ (v : Placed Input). input_value t v.value) b))
-
-  pub named_more : (xs : List HashRow) (items : List (Placed HashInput)) (i : ℕ) (x d : HashRow) (p : Placed Input) → i < length items → i < length xs → x ≡ get_or xs i d → x.row < n
-      → values (hash_input_value t) (take i items) ≡ map (named inputs) (take i xs)
-      → values (hash_input_value t) (take (i + 1) (set items i (row_with x (get_or rows x.row p)))) ≡ map (named inputs) (take (i + 1) xs)
-  named_more xs items i x d p room here at l so_far =
-      let y : Placed HashInput = row_with x (get_or rows x.row p) in
-      ap (values (hash_input_value t)) (take_more_set items i y room)
-      ∙ map_push (λ (v : Placed HashInput). hash_input_value t v.value) (take i items) y
-      ∙ ap (λ (zs : List Row). zs ++ hash_input_value t y.value ∷ []) so_far
-      ∙ ap (λ (r : Row). map (named inputs) (take i xs) ++ r ∷ []) (row_named x p l ∙ ap (named inputs) at)
-      ∙ sym (map_more (named inputs) xs i d here)
+-- the first rows of an array, each with what it says, are those of a list
+pub rows_made : {F X Y Z : Type 0} {g : Mut F (ℕ × Unit {0}) X} {f : F} {m : ℕ} (ys : List X) (xs : List Y) (h : X → Z) (k : Y → Z) (d : X) (e : Y) (z : Z) → length xs ≤ m
+    → ((i : ℕ) (y : X) (q : F) → Called g f (i, tt) y q → (q ≡ f) × (i < length xs → h y ≡ k (get_or xs i e))) → IsFromFnResult g f ys m → map h (take (length xs) ys) ≡ map k xs
+rows_made {m = m} ys xs h k d e z few law t =
+    let n : length (take (length xs) ys) ≡ length xs = length-take-le (length xs) ys (omega (arith, t.long, few)) in
+    ext_get_or z _ _ (length-map (take (length xs) ys) h ∙ n ∙ sym (length-map xs k))
+    (λ i l.
+    let b : i < length xs = omega (arith, l, n, length-map (take (length xs) ys) h) in
+    get_or-map h (take (length xs) ys) i d z (omega (arith, b, n))
+    ∙ ap h (get_or-take (length xs) ys i d b)
+    ∙ made_from ys (λ j y. j < length xs → h y ≡ k (get_or xs j e)) law d m 0 t.each i (omega arith) (omega (arith, b, few)) b
+    ∙ sym (get_or-map k xs i e z b))

@@ -12,5 +12,4 @@ pub mod Outcomes
 pub mod Pourings
 pub mod Rounds
 pub mod Sayings
-pub mod Stringing
 pub mod Workings

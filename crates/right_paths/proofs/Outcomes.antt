@@ -39,7 +39,7 @@ module _ {f : Step} {start : List ℕ} {capacity : ℕ} {answer : List ℕ → L
         sink = holds_last _ _ all;
         hash = (fixed_string x.only, HashString.of_fixed x refl, rest.hash);
         masked = λ n. absurd (n x);
-        blank = λ _. rest.blank;
+        unmasked = λ _. rest.unmasked;
         paths = record { own_path = own_kept rest.kept first.own; output_paths = paths };
       }
     where
@@ -69,8 +69,8 @@ module _ {f : Step} {start : List ℕ} {capacity : ℕ} {answer : List ℕ → L
         count = rest.count ∙ all.count;
         sink = holds_last _ _ all;
         hash = (s, hs, rest.hash);
-        masked = λ _. (t, ms, rest.masked);
-        blank = λ x. absurd (n x);
+        masked = λ _. (rest.masked.0, rest.masked.1, t, ms, rest.masked.2);
+        unmasked = λ x. absurd (n x);
         paths = record {
           own_path = own_kept rest.kept first.own;
           output_paths = λ i h. OutputPath.of_masked n t ms (ap (λ (z : List ℕ). full_store_path z (output_name path (get_or m.0 i no_output).0)) (rest.each i h));

@@ -1,20 +1,15 @@
 -- Strings that are digested one after the other: their lengths, and what the sink holds at the end.
-use Rattle.std.proofs.Common.{◌≡◌, ℕ, ◌+◌, ◌*◌, ◌%◌, ◌^◌, ◌<◌, ◌≤◌, List, [], ◌∷◌, ◌++◌, length, sym, refl, ap, ◌∙◌, subst, arith}
-use Rattle.std.specs.List.{AllByRecursion}
+use Rattle.std.proofs.Common.{◌≡◌, ℕ, ◌+◌, ◌%◌, ◌^◌, List, [], ◌∷◌, ◌++◌, length, sym, refl, ap, ◌∙◌, subst, arith}
 use Rattle.sink.specs.Digest.{begun}
 use Rattle.sink.specs.Write.{Step, Meaning, written}
 use Rattle.hash_modulo.specs.Sets.{Bytes}
 use Rattle.hash_modulo.specs.Strings.{all_lengths}
 use Rattle.right_paths.specs.Pouring.{poured, Pours}
-use Rattle.right_paths.specs.Worked.{PoursAll, HoldsLast}
+use Rattle.right_paths.specs.Worked.{PoursAll, LocatedBy, HoldsLast}
 
 pub lengths_append : (ss ts : List Bytes) → all_lengths (ss ++ ts) ≡ all_lengths ss + all_lengths ts
 lengths_append [] ts = omega arith
 lengths_append (s ∷ ss) ts = let h = lengths_append ss ts in omega arith
-
-pub lengths_short : (ss : List Bytes) → AllByRecursion (λ (s : Bytes). length s < 1048576) ss → all_lengths ss ≤ 1048576 * length ss
-lengths_short [] a = omega arith
-lengths_short (s ∷ ss) a = let h = lengths_short ss a.1 in let k : length s < 1048576 = a.0 in omega arith
 
 module _ (f : Step) (start : List ℕ) (capacity : ℕ) where
   pub poured_append : (m : Meaning) (ss ts : List Bytes) → poured f start capacity m (ss ++ ts) ≡ poured f start capacity (poured f start capacity m ss) ts
@@ -35,6 +30,13 @@ module _ {f : Step} {start : List ℕ} {capacity : ℕ} {answer : List ℕ → L
         count = omega arith;
         sink = q.sink ∙ ap (λ (v : Meaning). poured f start capacity v ts) p.sink ∙ sym (poured_append f start capacity before ss ts);
       }
+
+  -- the same, of an equal string
+  pub pours_as : {before after : Meaning} {s t h : Bytes} {n : ℕ} → s ≡ t → Pours f start capacity answer before s h n after → Pours f start capacity answer before t h n after
+  pours_as {before} {after} {s} {t} {h} {n} e p = subst (λ (z : Bytes). Pours f start capacity answer before z h n after) e p
+
+  pub located_as : {before after : Meaning} {s t digits : Bytes} {n : ℕ} → s ≡ t → LocatedBy f start capacity answer before s digits n after → LocatedBy f start capacity answer before t digits n after
+  located_as {before} {after} {s} {t} {digits} {n} e p = subst (λ (z : Bytes). LocatedBy f start capacity answer before z digits n after) e p
 
   last_held : (m : Meaning) (s : Bytes) (ss : List Bytes) → HoldsLast f start capacity answer m (s ∷ ss) (poured f start capacity m (s ∷ ss))
   last_held m s [] = record { front = []; last = s; whole = refl; state = refl; remaining = refl; total = ap (λ (n : ℕ). n % (2 ^ 64)) (omega arith) }

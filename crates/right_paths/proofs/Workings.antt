@@ -1,5 +1,5 @@
 -- The paths of a file, from the strings that are digested for them.
-use Rattle.std.proofs.Common.{◌≡◌, ℕ, ◌+◌, ◌<◌, true, false, List, [], ◌∷◌, length, codes, sym, ap, ◌∙◌, subst, arith}
+use Rattle.std.proofs.Common.{◌≡◌, ℕ, ◌+◌, ◌<◌, true, false, List, [], ◌∷◌, length, codes, Some, sym, ap, ◌∙◌, subst, arith}
 use Rattle.std.specs.Str.{bytes_eq}
 use Rattle.std.proofs.lemmas.Slice.Eq.{bytes_eq-Decides}
 use Rattle.std.proofs.lemmas.Bool.{cond-true, cond-false, false_from_ne_true}
@@ -11,6 +11,7 @@ use Rattle.sink.specs.Digest.{digest}
 use Rattle.sink.specs.Numerals.{hex}
 use Rattle.sink.specs.Write.{Step, Meaning}
 use Rattle.store_path.specs.Base32.{base32, fold}
+use Rattle.hash_rows.specs.declared.hash.Hash.{Hash}
 use Rattle.hash_modulo.specs.Hashes.{with_inputs}
 use Rattle.hash_modulo.specs.Paths.{path_string, file_name, References, own_type, masked, inner_string}
 use Rattle.hash_modulo.specs.Sets.{Bytes, Row}
@@ -19,7 +20,7 @@ use Rattle.right_paths.specs.Worked.{full_store_path, PoursAll, LocatedBy, OwnWo
 use Rattle.right_paths.specs.declared.hashes.Counted.{Counted}
 use Rattle.right_paths.specs.declared.hashes.Digits.{Digits}
 use Rattle.right_paths.specs.declared.hashes.FileHashes.{FileHashes}
-use Rattle.right_paths.proofs.Pourings.{pours_one, pours_then}
+use Rattle.right_paths.proofs.Pourings.{pours_one, pours_then, located_as}
 
 -- the strings of the path of a fixed file's output: of a source, and by the hash of what is given
 abbrev source : Bytes → Value an_output → Bytes
@@ -29,13 +30,14 @@ abbrev given : Bytes → Value an_output → Bytes → Bytes
 given path o h = path_string (codes "output:out") (hex h) (output_name path o.0)
 
 module _ {f : Step} {start : List ℕ} {capacity : ℕ} {answer : List ℕ → List ℕ} where
-  pub own_worked : {path : Bytes} {m : meanings.Meaning} {rs : List Bytes} {before middle after : Meaning} {h digits : List ℕ} {a b : ℕ} → References m rs
-      → Pours f start capacity answer before (canonical m) h a middle → LocatedBy f start capacity answer middle (path_string (own_type rs) (hex h) (file_name path)) digits b after
+  pub own_worked : {path : Bytes} {m : meanings.Meaning} {rs : List Bytes} {before middle after : Meaning} {name h digits : List ℕ} {a b : ℕ} → References m rs → name ≡ file_name path
+      → Pours f start capacity answer before (canonical m) h a middle → LocatedBy f start capacity answer middle (path_string (own_type rs) (hex h) name) digits b after
       → length (canonical m) < 1048576 → length (path_string (own_type rs) (hex h) (file_name path)) < 1048576
       → OwnWorked f start capacity answer path m before digits (a + b) after
-  own_worked {path} {m} {rs} {before} {middle} {after} {h} {digits} {a} {b} r p l s₁ s₂ =
+  own_worked {path} {m} {rs} {before} {middle} {after} {name} {h} {digits} {a} {b} r named p told s₁ s₂ =
       let d = digest f start answer in
       let string : Bytes → Bytes = λ x. path_string (own_type rs) (hex x) (file_name path) in
+      let l : LocatedBy f start capacity answer middle (string h) digits b after = located_as (ap (path_string (own_type rs) (hex h)) named) told in
       let e : string h ≡ string (d (canonical m)) = ap string p.hash in
       let x : a ≡ length (canonical m) = p.count in
       let y : b ≡ length (string h) + 0 = l.pours.count in
@@ -78,16 +80,16 @@ module _ {f : Step} {start : List ℕ} {capacity : ℕ} {answer : List ℕ → L
         }
 
   -- after the two texts of a file, and the paths of its outputs
-  pub text_rest : {path : Bytes} {m : meanings.Meaning} {rows : List Row} {own : Counted Digits} {before whole middle after : Meaning} {r : FileHashes} {h k : Bytes} {a b n : ℕ}
-      → Pours f start capacity answer before (canonical (with_inputs m rows)) h a whole → Pours f start capacity answer whole (canonical (with_inputs (masked m) rows)) k b middle
+  pub text_rest : {path : Bytes} {m : meanings.Meaning} {rows : List Row} {own : Counted Digits} {before whole middle after : Meaning} {r : FileHashes} {h : Bytes} {k : Hash} {a b n : ℕ}
+      → Pours f start capacity answer before (canonical (with_inputs m rows)) h a whole → Pours f start capacity answer whole (canonical (with_inputs (masked m) rows)) k.bytes b middle
       → OutputsWorked f start capacity answer path (canonical (with_inputs (masked m) rows)) m.0 middle r.outputs n after
-      → r.own.bytes ≡ own.value.bytes → r.hash.bytes ≡ h → r.masked.bytes ≡ k → r.count ≡ own.count + a + b + n
+      → r.own.bytes ≡ own.value.bytes → r.hash.bytes ≡ h → r.masked ≡ Some k → r.count ≡ own.count + a + b + n
       → TextRest f start capacity answer path m rows own before r after
   text_rest {path} {m} {rows} {own} {before} {whole} {middle} {after} {r} {h} {k} {a} {b} {n} p q o kept e₁ e₂ sum =
       record {
         kept = kept;
         hash = e₁ ∙ p.hash;
-        masked = e₂ ∙ q.hash;
+        masked = (k, e₂, q.hash);
         each = o.each;
         more = a + (b + n);
         count = omega arith;

@@ -1,6 +1,7 @@
 -- Input rows with the hashes of their files in place of their paths.
 -- Source: E. Dolstra, The Purely Functional Software Deployment Model (2006), section 5.5; this project's own rule (docs/FORMATS.md, "Hashes modulo inputs").
-use Rattle.std.specs.Prelude.{◌≡◌, ℕ, List, map, take}
+use Rattle.std.specs.Prelude.{◌≡◌, ℕ, List, map}
+use Rattle.aterm.specs.Tables.{rows_of}
 use Rattle.canonical.specs.Files.{said_in, values}
 use Rattle.hash_rows.specs.Keyed as keyed
 use Rattle.hash_rows.specs.declared.hash.Hash.{Hash}
@@ -11,7 +12,7 @@ use Rattle.right_paths.specs.declared.hash_input.HashInput.{HashInput}
 
 -- what a row with a hash says
 abbrev pub hash_input_value : List ℕ → HashInput → Row
-hash_input_value t v = (hex v.hash.bytes, values (said_in t) (take v.names.len v.names.items))
+hash_input_value t v = (hex v.hash.bytes, values (said_in t) (rows_of v.names))
 
 -- g has these hashes, in the order of the rows
 abbrev pub Aligned : (Bytes → Bytes) → List Row → List Hash → Type 0

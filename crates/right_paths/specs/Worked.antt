@@ -1,7 +1,7 @@
 -- What is worked out for one file: the definition's hash, masked hash and right paths, with the definition's strings digested in their order.
 -- Source: this project's own rule (docs/FORMATS.md, "Digested strings"), over the hashes and right paths of E. Dolstra,
 -- The Purely Functional Software Deployment Model (2006), section 5.5.
-use Rattle.std.specs.Prelude.{◌≡◌, ℕ, ◌+◌, ◌-◌, ◌%◌, ◌^◌, ◌<◌, ◌≤◌, List, [], ◌∷◌, ◌++◌, map, length, get_or, replicate, codes, slice_index_or}
+use Rattle.std.specs.Prelude.{◌≡◌, ℕ, ◌+◌, ◌-◌, ◌%◌, ◌^◌, ◌<◌, ◌≤◌, List, [], ◌∷◌, ◌++◌, map, length, get_or, replicate, codes, slice_index_or, Some, None}
 use Rattle.canonical.specs.Kinds.{Value, Lawful}
 use Rattle.canonical.specs.Meanings.{an_output, a_derivation, Meaning, canonical}
 use Rattle.derivation.specs.Questions.{output_name}
@@ -26,6 +26,10 @@ full_store_path digits name = codes "/nix/store/" ++ (digits ++ (45 ∷ name))
 
 abbrev pub no_digits : Digits
 no_digits = record { bytes = replicate 32 0 }
+
+-- the file is fixed, and o is its only output
+abbrev pub FixedBy : Meaning → Value an_output → Type 0
+FixedBy m o = (x : Fixed m) × (x.only ≡ o)
 
 -- what a file must be for its hashes to be worked out: within the limits, its rows sorted, and some function has the hashes of its inputs
 pub record Workable (path : Bytes) (m : Meaning) (hashes : List Hash) : Type 0 where
@@ -75,7 +79,7 @@ module _ (f : Step) (start : List ℕ) (capacity : ℕ) (answer : List ℕ → L
   pub record FixedRest (path : Bytes) (o : Value an_output) (own : Counted Digits) (before : sinks.Meaning) (r : FileHashes) (after : sinks.Meaning) : Type 0 where
     pub kept : r.own.bytes ≡ own.value.bytes
     pub hash : r.hash.bytes ≡ digest f start answer (fixed_string o)
-    pub blank : r.masked.bytes ≡ replicate 32 0
+    pub unmasked : r.masked ≡ None
     pub right : full_store_path (get_or r.outputs 0 no_digits).bytes (output_name path o.0) ≡ fixed_path (digest f start answer) path o
     pub more : ℕ
     pub count : r.count ≡ own.count + more
@@ -85,7 +89,7 @@ module _ (f : Step) (start : List ℕ) (capacity : ℕ) (answer : List ℕ → L
   pub record TextRest (path : Bytes) (m : Meaning) (rows : List Row) (own : Counted Digits) (before : sinks.Meaning) (r : FileHashes) (after : sinks.Meaning) : Type 0 where
     pub kept : r.own.bytes ≡ own.value.bytes
     pub hash : r.hash.bytes ≡ digest f start answer (canonical (with_inputs m rows))
-    pub masked : r.masked.bytes ≡ digest f start answer (canonical (with_inputs (mask m) rows))
+    pub masked : (h : Hash) × (r.masked ≡ Some h) × (h.bytes ≡ digest f start answer (canonical (with_inputs (mask m) rows)))
     pub each : (i : ℕ) → i < length m.0
         → (get_or r.outputs i no_digits).bytes ≡ base32 (fold (digest f start answer (output_string (digest f start answer) path (canonical (with_inputs (mask m) rows)) (slice_index_or m.0 i no_output))))
     pub more : ℕ
@@ -116,6 +120,6 @@ pub record FileWorked (f : Step) (start : List ℕ) (capacity : ℕ) (answer : L
   pub count : r.count ≡ all_lengths strings
   pub sink : HoldsLast f start capacity answer before strings after
   pub hash : (s : Bytes) × HashString g m s × (r.hash.bytes ≡ digest f start answer s)
-  pub masked : (Fixed m → ⊥) → (t : Bytes) × MaskedString g m t × (r.masked.bytes ≡ digest f start answer t)
-  pub blank : Fixed m → r.masked.bytes ≡ replicate 32 0
+  pub masked : (Fixed m → ⊥) → (h : Hash) × (r.masked ≡ Some h) × (t : Bytes) × MaskedString g m t × (h.bytes ≡ digest f start answer t)
+  pub unmasked : Fixed m → r.masked ≡ None
   pub paths : RightDigits (digest f start answer) path g m r.own.bytes r.outputs

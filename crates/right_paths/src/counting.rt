@@ -1,4 +1,4 @@
-// A layer that counts the bytes it passes on to a lent sink.
+// A layer that counts the bytes it passes on to a lent sink. Not sink's `Counter`, which passes nothing on.
 ghost use Rattle.std.specs.Prelude.{◌≡◌};
 ghost use Rattle.right_paths.specs.Counting.{counting as counting_step, counted};
 

@@ -1,22 +1,23 @@
 // What is digested for one output of a file.
-ghost use Rattle.std.specs.Prelude.{◌≤◌, ◌++◌, codes};
+ghost use Rattle.std.specs.Prelude.{◌≡◌, ◌≤◌, ◌++◌, codes};
+ghost use Rattle.canonical.specs.Files.{said_in};
 ghost use Rattle.derivation.specs.Questions.{output_name};
 ghost use Rattle.hash_modulo.specs.Hashes.{fixed_string};
 ghost use Rattle.hash_modulo.specs.Paths.{path_string};
 ghost use Rattle.sink.specs.Numerals.{hex};
 ghost use Rattle.right_paths.specs.Pouring.{Short};
-ghost use Rattle.right_paths.specs.Views.{output_by};
+ghost use Rattle.right_paths.specs.Views.{said_by, output_by};
 ghost use Rattle.right_paths.specs.Worked.{FixedShort, LocatedBy, FixedWorked, FixedRest};
 
 use crate::digests::pour;
-use crate::fixed_strings::{FixedString, InnerString};
+use crate::fixed_strings::InnerString;
 use crate::hashes::{Counted, Digits, FileHashes};
 use crate::locating::locate;
 use crate::names::OutputName;
 use crate::parts::{Hex, Joined, Word};
 use crate::path_string::PathString;
 use crate::said::Said;
-use aterm::Output;
+use aterm::{Output, Span};
 use hash_rows::Hash;
 use sink::{DigestSink, Sink};
 
@@ -29,15 +30,22 @@ pub struct FileOutput<'a> {
 }
 
 impl<'a> FileOutput<'a> {
+    // A string of the output.
+    fn said(&self, span: Span) -> Said<'a>
+        ensures { said_by result ≡ said_in self.now.text.now span }
+    {
+        Said {
+            text: self.text,
+            span,
+        }
+    }
+
     // Its path in a file that is not fixed, by the masked hash.
     pub fn path_by<S: DigestSink>(&self, masked: [u8; 32], sink: &mut S) -> Counted<Digits>
         requires { Short (path_string (codes "output:" ++ (output_by self.now).0) (hex masked) (output_name self.now.path.now (output_by self.now).0)) }
         ensures { LocatedBy S.Sink.step S.DigestSink.start S.DigestSink.capacity S.DigestSink.answered (S.Sink.held sink.old).meaning (path_string (codes "output:" ++ (output_by self.now).0) (hex masked) (output_name self.now.path.now (output_by self.now).0)) result.value.bytes result.count (S.Sink.held sink.new).meaning }
     {
-        let out = Said {
-            text: self.text,
-            span: self.output.name,
-        };
+        let out = self.said(self.output.name);
         let string = PathString {
             kind: Joined {
                 first: Word { bytes: b"output:" },
@@ -57,24 +65,14 @@ impl<'a> FileOutput<'a> {
         requires { FixedShort self.now.path.now (output_by self.now) }
         ensures { FixedWorked S.Sink.step S.DigestSink.start S.DigestSink.capacity S.DigestSink.answered self.now.path.now (output_by self.now) (S.Sink.held sink.old).meaning result.value.bytes result.count (S.Sink.held sink.new).meaning }
     {
-        let text = self.text;
-        let output = self.output;
+        let out = self.said(self.output.name);
+        let algorithm = self.said(self.output.algorithm);
+        let hash = self.said(self.output.hash);
         let name = OutputName {
             path: self.path,
-            out: Said {
-                text,
-                span: output.name,
-            },
-        };
-        let algorithm = Said {
-            text,
-            span: output.algorithm,
+            out,
         };
         if algorithm.says(b"r:sha256") {
-            let hash = Said {
-                text,
-                span: output.hash,
-            };
             let source = PathString {
                 kind: Word { bytes: b"source" },
                 hash,
@@ -82,7 +80,7 @@ impl<'a> FileOutput<'a> {
             };
             return locate(&source, sink);
         }
-        let inner = pour(&InnerString { text, output }, sink);
+        let inner = pour(&InnerString { algorithm, hash }, sink);
         let digest = inner.value;
         let given = PathString {
             kind: Word {
@@ -105,19 +103,21 @@ impl<'a> FileOutput<'a> {
         requires few { own.count ≤ 2097152 }
         ensures { FixedRest S.Sink.step S.DigestSink.start S.DigestSink.capacity S.DigestSink.answered self.now.path.now (output_by self.now) own (S.Sink.held sink.old).meaning result (S.Sink.held sink.new).meaning }
     {
-        let whole = pour(
-            &FixedString {
-                text: self.text,
-                output: self.output,
-            },
-            sink,
-        );
-        let hash = whole.value;
+        let algorithm = self.said(self.output.algorithm);
+        let hash = self.said(self.output.hash);
+        let path = self.said(self.output.path);
+        // The string of a fixed file's hash: the inner one, and the stated path.
+        let string = Joined {
+            first: InnerString { algorithm, hash },
+            rest: path,
+        };
+        let whole = pour(&string, sink);
+        let digest = whole.value;
         let only = self.fixed_path(sink);
         FileHashes {
             own: own.value,
-            hash: Hash { bytes: hash },
-            masked: Hash { bytes: [0; 32] },
+            hash: Hash { bytes: digest },
+            masked: None,
             outputs: [only.value; 16],
             count: own.count + whole.count + only.count,
         }

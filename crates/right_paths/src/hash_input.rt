@@ -2,7 +2,7 @@
 use aterm::{Rows, Span};
 use hash_rows::Hash;
 
-#[derive(Clone, Copy)]
+#[derive(Clone, Copy, Default)]
 pub struct HashInput {
     pub hash: Hash,
     pub names: Rows<Span, 16>,

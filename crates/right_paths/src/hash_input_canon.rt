@@ -20,8 +20,8 @@ impl Canon for HashInput {
     fn arranged(self, text: &[u8]) -> HashInput {
         let sorted_names = self.names.arranged(text);
         HashInput {
-            hash: self.hash,
             names: sorted_names,
+            ..self
         }
     }
 

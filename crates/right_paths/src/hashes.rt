@@ -2,7 +2,7 @@
 use hash_rows::Hash;
 
 // The 32 digits of a store path.
-#[derive(Clone, Copy)]
+#[derive(Clone, Copy, Default)]
 pub struct Digits {
     pub bytes: [u8; 32],
 }
@@ -14,13 +14,14 @@ pub struct Counted<T> {
     pub count: u64,
 }
 
-// The file's right path, its hash, its masked hash (zeros for a fixed file), its outputs' right paths, rising (those past the last
-// output are of no meaning), and the number of bytes that were digested for all of them.
+// The file's right path, its hash, its masked hash (a fixed file has none), its outputs' right paths, rising, and the number of
+// bytes that were digested for all of them. The file itself says how many outputs there are, and those past its last are of no meaning.
+// No `ArrayVec`: this public type is `Copy`, and judge's `judge_paths` takes the digits as an array of 16.
 #[derive(Clone, Copy)]
 pub struct FileHashes {
     pub own: Digits,
     pub hash: Hash,
-    pub masked: Hash,
+    pub masked: Option<Hash>,
     pub outputs: [Digits; 16],
     pub count: u64,
 }

@@ -1,53 +1,41 @@
 // The input rows of a file with the hashes of their files in place of their paths.
-ghost use Rattle.std.specs.Prelude.{◌≡◌, ℕ, ◌<◌, ◌≤◌, List, map, length, take};
+ghost use Rattle.std.specs.Prelude.{◌≡◌, ℕ, ◌<◌, ◌≤◌, List, map, length, slice_index_or};
+ghost use Rattle.aterm.specs.Tables.{rows_of};
 ghost use Rattle.canonical.specs.Files.{values, input_value};
 ghost use Rattle.hash_modulo.specs.Sets.{Bytes};
-ghost use Rattle.hash_rows.specs.Keyed.{In};
-ghost use Rattle.hash_rows.specs.Rows.{Gathered};
 ghost use Rattle.hash_rows.specs.Seen.{held};
 ghost use Rattle.hash_rows.specs.declared.hash.HashRow.{HashRow};
 ghost use Rattle.right_paths.specs.Inputs.{hash_input_value, Aligned, RowsRight};
-ghost use Rattle.right_paths.specs.Numbered.{numbered, named};
+ghost use Rattle.right_paths.specs.Numbered.{named};
 
 use crate::hash_input::HashInput;
-use aterm::{Input, Placed, Rows, Span};
-use hash_rows::{Hash, HashRows};
+use aterm::{Input, Placed, Rows};
+use hash_rows::{Hash, HashRow, HashRows, gather_from};
+use std::array;
 
-// Each hash with the number of its row; of equal hashes the last one stands. Not by `gather`, which takes pairs as they stand: here no table of them is made first.
-fn by_hash(hashes: &[Hash]) -> HashRows
-    requires { length hashes.now ≤ 64 }
-    ensures { Gathered (numbered 0 hashes.now) (held result) }
+// Row `i` of the table, with the names of the input that it numbers; past the last row, one without names.
+fn row_with_names(inputs: &[Placed<Input>], rows: &[HashRow], i: usize) -> Placed<HashInput>
+    ensures { (t : List ℕ) (d : HashRow) → i < length rows.now → hash_input_value t result.value ≡ named (values (input_value t) inputs.now) (slice_index_or rows.now i d) }
 {
-    let mut table = HashRows::new();
-    for (i, hash) in hashes.iter().enumerate() {
-        table = table.with(*hash, i);
+    let row = rows.get(i).copied().unwrap_or_default();
+    let input = inputs.get(row.row);
+    let names = input.map(|input| input.value.names).unwrap_or_default();
+    // Such a row stands in no text, and nothing reads its place.
+    Placed {
+        place: 0,
+        value: HashInput {
+            hash: row.hash,
+            names,
+        },
     }
-    table
 }
 
-// The rows of the table, each with the names of the input that it numbers.
-fn with_names(inputs: &Rows<Input, 64>, table: &HashRows) -> Rows<HashInput, 64>
-    requires { (x : HashRow) → In x (held table.now) → x.row < inputs.now.len }
-    ensures { (t : List ℕ) → values (hash_input_value t) (take result.len result.items) ≡ map (named (values (input_value t) (take inputs.now.len inputs.now.items))) (held table.now) }
+// The rows of the table, each with its names.
+fn table_with_names(inputs: &[Placed<Input>], table: &HashRows) -> Rows<HashInput, 64>
+    ensures { (t : List ℕ) → values (hash_input_value t) (rows_of result) ≡ map (named (values (input_value t) inputs.now)) (held table.now) }
 {
-    let blank = HashInput {
-        hash: Hash { bytes: [0; 32] },
-        names: Rows::empty(Span { start: 0, end: 0 }),
-    };
-    let mut items = [Placed {
-        place: 0,
-        value: blank,
-    }; 64];
     let rows = table.as_slice();
-    for (i, row) in rows.iter().enumerate() {
-        items[i] = Placed {
-            place: 0,
-            value: HashInput {
-                hash: row.hash,
-                names: inputs.items[row.row].value.names,
-            },
-        };
-    }
+    let items = array::from_fn(|i| row_with_names(inputs, rows, i));
     Rows {
         items,
         len: rows.len(),
@@ -57,8 +45,12 @@ fn with_names(inputs: &Rows<Input, 64>, table: &HashRows) -> Rows<HashInput, 64>
 // The rows that stand for the inputs, rising by hash, where hashes[i] is the hash of the file that row i names.
 pub fn hash_inputs(inputs: &Rows<Input, 64>, hashes: &[Hash]) -> Rows<HashInput, 64>
     requires { length hashes.now ≤ inputs.now.len }
-    ensures { (t : List ℕ) (g : Bytes → Bytes) → Aligned g (values (input_value t) (take inputs.now.len inputs.now.items)) hashes.now → RowsRight g (values (input_value t) (take inputs.now.len inputs.now.items)) (values (hash_input_value t) (take result.len result.items)) }
+    ensures { (t : List ℕ) (g : Bytes → Bytes) → Aligned g (values (input_value t) (rows_of inputs.now)) hashes.now → RowsRight g (values (input_value t) (rows_of inputs.now)) (values (hash_input_value t) (rows_of result)) }
 {
-    let table = by_hash(hashes);
-    with_names(inputs, &table)
+    let numbered = hashes
+        .iter()
+        .enumerate()
+        .map(|(row, hash)| HashRow { hash: *hash, row });
+    let table = gather_from(numbered);
+    table_with_names(inputs.as_slice(), &table)
 }

@@ -1,5 +1,6 @@
 // A derivation's outputs without their paths, and its environment without the values of its outputs.
-ghost use Rattle.std.specs.Prelude.{◌≡◌, ℕ, List, map, take};
+ghost use Rattle.std.specs.Prelude.{◌≡◌, ℕ, List, map};
+ghost use Rattle.aterm.specs.Tables.{rows_of};
 ghost use Rattle.canonical.specs.Files.{values, output_value, variable_value};
 ghost use Rattle.hash_modulo.specs.Paths.{is_output, mask_output, mask_variable};
 ghost use Rattle.right_paths.specs.Views.{said_by};
@@ -7,24 +8,19 @@ ghost use Rattle.right_paths.specs.Views.{said_by};
 use crate::said::Said;
 use aterm::{Output, Placed, Rows, Span, Variable};
 
-// A string without bytes.
-const NOTHING: Span = Span { start: 0, end: 0 };
-
 // An output with an empty path.
 fn mask_output(output: Output) -> Output
     ensures { (t : List ℕ) → output_value t result ≡ mask_output (output_value t output) }
 {
     Output {
-        name: output.name,
-        path: NOTHING,
-        algorithm: output.algorithm,
-        hash: output.hash,
+        path: Span::default(),
+        ..output
     }
 }
 
 // The outputs with empty paths.
 pub fn mask_outputs(outputs: Rows<Output, 16>) -> Rows<Output, 16>
-    ensures { (t : List ℕ) → values (output_value t) (take result.len result.items) ≡ map mask_output (values (output_value t) (take outputs.len outputs.items)) }
+    ensures { (t : List ℕ) → values (output_value t) (rows_of result) ≡ map mask_output (values (output_value t) (rows_of outputs)) }
 {
     outputs.map(mask_output)
 }
@@ -46,8 +42,8 @@ fn mask_variable(text: &[u8], outputs: &[Placed<Output>], variable: Variable) ->
     };
     if is_output_name(outputs, name) {
         return Variable {
-            name: variable.name,
-            value: NOTHING,
+            value: Span::default(),
+            ..variable
         };
     }
     variable
@@ -59,7 +55,7 @@ pub fn mask_environment(
     outputs: &[Placed<Output>],
     environment: Rows<Variable, 128>,
 ) -> Rows<Variable, 128>
-    ensures { values (variable_value text.now) (take result.len result.items) ≡ map (mask_variable (values (output_value text.now) outputs.now)) (values (variable_value text.now) (take environment.len environment.items)) }
+    ensures { values (variable_value text.now) (rows_of result) ≡ map (mask_variable (values (output_value text.now) outputs.now)) (values (variable_value text.now) (rows_of environment)) }
 {
     environment.map(|variable| mask_variable(text, outputs, variable))
 }

@@ -15,21 +15,7 @@ pub fn name_of(path: &[u8]) -> &[u8]
     &path[at..]
 }
 
-// The name of the file at `path`.
-#[derive(Clone, Copy)]
-pub struct FileName<'a> {
-    pub path: &'a [u8],
-}
-
-impl<'a> ToSink for FileName<'a> {
-    ghost bytes = { λ s. file_name s.path.now };
-
-    fn write_to<S: Sink>(&self, sink: &mut S) -> Result<(), Full> {
-        sink.write(name_of(self.path))
-    }
-}
-
-// The same without `.drv`.
+// The name of the file without `.drv`.
 fn stem(path: &[u8]) -> &[u8]
     ensures { result.now ≡ stem_of path.now }
 {
@@ -49,10 +35,10 @@ impl<'a> ToSink for OutputName<'a> {
     ghost bytes = { λ s. output_name s.path.now (said_by s.out) };
 
     fn write_to<S: Sink>(&self, sink: &mut S) -> Result<(), Full> {
-        if self.out.says(b"out") {
-            return sink.write(stem(self.path));
-        }
         sink.write(stem(self.path))?;
+        if self.out.says(b"out") {
+            return Ok(());
+        }
         sink.write(b"-")?;
         self.out.write_to(sink)
     }

@@ -18,7 +18,7 @@ impl<'a> ToSink for Word<'a> {
     }
 }
 
-// A digest in base 16.
+// A digest in base 16, for a sink. Not test_input's `Hex`, which is for `fmt`.
 #[derive(Clone, Copy)]
 pub struct Hex {
     pub digest: [u8; 32],

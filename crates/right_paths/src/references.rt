@@ -1,14 +1,15 @@
 // The references of a file, and the kind of its own path, which has them: `text` and each reference.
 ghost use Rattle.std.specs.Prelude.{◌≡◌, [], ◌∷◌, MatchOption};
 ghost use Rattle.std.specs.Iterator.{YieldsFirstBy, item_count};
-ghost use Rattle.canonical.specs.Files.{said_in, derivation_value};
+ghost use Rattle.canonical.specs.Files.{said_in};
 ghost use Rattle.hash_modulo.specs.Paths.{own_type};
 ghost use Rattle.right_paths.specs.References.{references_of, references_in, references_left};
-ghost use Rattle.right_paths.specs.Views.{said_by};
+ghost use Rattle.right_paths.specs.Views.{said_by, file_by};
 
+use crate::file::SortedFile;
 use crate::parts::{Joined, Word};
 use crate::said::Said;
-use aterm::{Derivation, Input, Placed, Span};
+use aterm::{Input, Placed, Span};
 use canonical::compare;
 use sink::{Full, Sink, ToSink};
 use std::cmp::Ordering;
@@ -21,25 +22,34 @@ pub struct References<'a> {
     sources: &'a [Placed<Span>],
 }
 
-// The first reference, and the inputs and the sources after it.
-fn next_reference<'a>(
-    text: &[u8],
-    inputs: &'a [Placed<Input>],
-    sources: &'a [Placed<Span>],
-) -> Option<(Span, &'a [Placed<Input>], &'a [Placed<Span>])>
-    ensures { MatchOption result
-        (references_in text.now inputs.now sources.now ≡ [])
-        (λ x. references_in text.now inputs.now sources.now ≡ said_in text.now x.0 ∷ references_in text.now x.1.now x.2.now) }
-{
-    match (inputs.split_first(), sources.split_first()) {
-        (None, None) => None,
-        (Some((input, more)), None) => Some((input.value.path, more, sources)),
-        (None, Some((source, others))) => Some((source.value, inputs, others)),
-        (Some((input, more)), Some((source, others))) => {
-            match compare(text, input.value.path, source.value) {
-                Ordering::Less => Some((input.value.path, more, sources)),
-                Ordering::Equal => Some((input.value.path, more, others)),
-                Ordering::Greater => Some((source.value, inputs, others)),
+impl<'a> References<'a> {
+    // Those of the same text in these inputs and sources.
+    fn left(self, inputs: &'a [Placed<Input>], sources: &'a [Placed<Span>]) -> References<'a>
+        ensures { references_left result ≡ references_in self.entry.text.now inputs.now sources.now }
+    {
+        References {
+            inputs,
+            sources,
+            ..self
+        }
+    }
+
+    // The first reference, and those after it.
+    fn step(self) -> Option<(Span, References<'a>)>
+        ensures { MatchOption result
+            (references_left self.entry ≡ [])
+            (λ x. references_left self.entry ≡ said_in self.entry.text.now x.0 ∷ references_left x.1) }
+    {
+        match (self.inputs.split_first(), self.sources.split_first()) {
+            (None, None) => None,
+            (Some((input, more)), None) => Some((input.value.path, self.left(more, self.sources))),
+            (None, Some((source, others))) => Some((source.value, self.left(self.inputs, others))),
+            (Some((input, more)), Some((source, others))) => {
+                match compare(self.text, input.value.path, source.value) {
+                    Ordering::Less => Some((input.value.path, self.left(more, self.sources))),
+                    Ordering::Equal => Some((input.value.path, self.left(more, others))),
+                    Ordering::Greater => Some((source.value, self.left(self.inputs, others))),
+                }
             }
         }
     }
@@ -53,31 +63,27 @@ impl<'a> Iterator for References<'a> {
     ghost remaining = { item_count references_left };
 
     fn next(&mut self) -> Option<Said<'a>> {
-        let (span, inputs, sources) = next_reference(self.text, self.inputs, self.sources)?;
-        self.inputs = inputs;
-        self.sources = sources;
-        Some(Said {
-            text: self.text,
-            span,
-        })
+        let text = self.text;
+        let (span, rest) = self.step()?;
+        *self = rest;
+        Some(Said { text, span })
     }
 }
 
-// `text`, and `:` and its path for each reference. The rows of the inputs and the sources are sorted.
+// `text`, and `:` and its path for each reference.
 #[derive(Clone, Copy)]
 pub struct OwnKind<'a> {
-    pub text: &'a [u8],
-    pub file: &'a Derivation,
+    pub of: SortedFile<'a>,
 }
 
 impl<'a> ToSink for OwnKind<'a> {
-    ghost bytes = { λ s. own_type (references_of (derivation_value s.text.now s.file.now)) };
+    ghost bytes = { λ s. own_type (references_of (file_by s.of)) };
 
     fn write_to<S: Sink>(&self, sink: &mut S) -> Result<(), Full> {
         let references = References {
-            text: self.text,
-            inputs: self.file.inputs.as_slice(),
-            sources: self.file.sources.as_slice(),
+            text: self.of.text,
+            inputs: self.of.file.inputs.as_slice(),
+            sources: self.of.file.sources.as_slice(),
         };
         sink.write(b"text")?;
         for path in references {

@@ -1,11 +1,13 @@
 // The texts of a derivation that are digested. Its rows are sorted.
-ghost use Rattle.std.specs.Prelude.{take};
+ghost use Rattle.aterm.specs.Tables.{rows_of};
 ghost use Rattle.canonical.specs.Files.{values, derivation_value};
 ghost use Rattle.canonical.specs.Meanings.{canonical};
 ghost use Rattle.hash_modulo.specs.Hashes.{with_inputs};
 ghost use Rattle.hash_modulo.specs.Paths.{masked};
 ghost use Rattle.right_paths.specs.Inputs.{hash_input_value};
+ghost use Rattle.right_paths.specs.Views.{file_by};
 
+use crate::file::SortedFile;
 use crate::hash_input::HashInput;
 use crate::masked::{mask_environment, mask_outputs};
 use aterm::{Derivation, Rows};
@@ -15,28 +17,31 @@ use sink::{Full, Sink, ToSink};
 // The canonical text.
 #[derive(Clone, Copy)]
 pub struct CanonicalText<'a> {
-    pub text: &'a [u8],
-    pub file: &'a Derivation,
+    pub of: SortedFile<'a>,
 }
 
 impl<'a> ToSink for CanonicalText<'a> {
-    ghost bytes = { λ s. canonical (derivation_value s.text.now s.file.now) };
+    ghost bytes = { λ s. canonical (file_by s.of) };
 
     fn write_to<S: Sink>(&self, sink: &mut S) -> Result<(), Full> {
-        write_derivation(self.text, self.file, sink)
+        write_derivation(self.of.text, self.of.file, sink)
     }
 }
 
-// The text with hashes in place of the paths of its inputs.
+// The text with hashes in place of the paths of its inputs, whole or masked: with its own output paths left out too.
 #[derive(Clone, Copy)]
-pub struct HashText<'a> {
+pub struct HashText<'a, const MASKED: bool> {
     pub text: &'a [u8],
     pub file: &'a Derivation,
     pub inputs: &'a Rows<HashInput, 64>,
 }
 
-impl<'a> ToSink for HashText<'a> {
-    ghost bytes = { λ s. canonical (with_inputs (derivation_value s.text.now s.file.now) (values (hash_input_value s.text.now) (take s.inputs.now.len s.inputs.now.items))) };
+pub type WholeText<'a> = HashText<'a, false>;
+
+pub type MaskedText<'a> = HashText<'a, true>;
+
+impl<'a> ToSink for HashText<'a, false> {
+    ghost bytes = { λ s. canonical (with_inputs (derivation_value s.text.now s.file.now) (values (hash_input_value s.text.now) (rows_of s.inputs.now))) };
 
     fn write_to<S: Sink>(&self, sink: &mut S) -> Result<(), Full> {
         let file = self.file;
@@ -51,16 +56,8 @@ impl<'a> ToSink for HashText<'a> {
     }
 }
 
-// The same with its own output paths left out.
-#[derive(Clone, Copy)]
-pub struct MaskedText<'a> {
-    pub text: &'a [u8],
-    pub file: &'a Derivation,
-    pub inputs: &'a Rows<HashInput, 64>,
-}
-
-impl<'a> ToSink for MaskedText<'a> {
-    ghost bytes = { λ s. canonical (with_inputs (masked (derivation_value s.text.now s.file.now)) (values (hash_input_value s.text.now) (take s.inputs.now.len s.inputs.now.items))) };
+impl<'a> ToSink for HashText<'a, true> {
+    ghost bytes = { λ s. canonical (with_inputs (masked (derivation_value s.text.now s.file.now)) (values (hash_input_value s.text.now) (rows_of s.inputs.now))) };
 
     fn write_to<S: Sink>(&self, sink: &mut S) -> Result<(), Full> {
         let file = self.file;

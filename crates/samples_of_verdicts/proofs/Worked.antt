@@ -1,5 +1,5 @@
 -- The string and the two files of the table.
-use Rattle.std.proofs.Common.{◌≡◌, ℕ, suc, Bool, true, false, T, eqb, List, [], ◌∷◌, codes, sym, refl, subst, inl, inr, arith, lit≤, eqb→eq, Ok, Err}
+use Rattle.std.proofs.Common.{◌≡◌, ℕ, suc, Bool, true, false, ◌&&◌, ◌||◌, T, eqb, List, [], ◌∷◌, codes, sym, refl, subst, inl, inr, arith, lit≤, eqb→eq, Ok, Err}
 use Rattle.std.specs.List.{ContainsAt as Has, AllByRecursion}
 use Rattle.aterm.specs.Files.{output, variable, derivation, whole}
 use Rattle.aterm.specs.Grammar.{Char, plain, escaped, ordinary, Tree, Within, signs}
@@ -32,36 +32,28 @@ needless = record { string = escaped 97 ∷ []; written = refl; meant = refl; re
 
 -- ---- tests that antt computes
 
-abbrev both : Bool → Bool → Bool
-both true b = b
-both false b = false
-
-both_left : (a b : Bool) → T (both a b) → T a
+both_left : (a b : Bool) → T (a && b) → T a
 both_left true b t = tt
 both_left false b t = t
 
-both_right : (a b : Bool) → T (both a b) → T b
+both_right : (a b : Bool) → T (a && b) → T b
 both_right true b t = t
 both_right false b t = absurd t
-
-abbrev either : Bool → Bool → Bool
-either true b = true
-either false b = b
 
 -- each byte of a string is in a table
 abbrev in_table : List ℕ → ℕ → Bool
 in_table [] c = false
-in_table (b ∷ table) c = either (eqb b c) (in_table table c)
+in_table (b ∷ table) c = eqb b c || in_table table c
 
 abbrev all_in : List ℕ → List ℕ → Bool
 all_in table [] = true
-all_in table (c ∷ cs) = both (in_table table c) (all_in table cs)
+all_in table (c ∷ cs) = in_table table c && all_in table cs
 
 has_byte : (table : List ℕ) (c : ℕ) → T (in_table table c) → Has table c
 has_byte [] c t = absurd t
 has_byte (b ∷ table) c t = way (eqb b c) refl t (has_byte table c)
   where
-    way : (r : Bool) → eqb b c ≡ r → T (either r (in_table table c)) → (T (in_table table c) → Has table c) → Has (b ∷ table) c
+    way : (r : Bool) → eqb b c ≡ r → T (r || in_table table c) → (T (in_table table c) → Has table c) → Has (b ∷ table) c
     way true e u next = (0, omega arith, λ d. eqb→eq b c (subst T (sym e) tt))
     way false e u next = let h = next u in (suc h.0, omega (arith, h.1), h.2)
 
@@ -72,7 +64,7 @@ has_all table (c ∷ cs) t = (has_byte table c (both_left (in_table table c) (al
 -- a string without escapes
 abbrev all_ordinary : List ℕ → Bool
 all_ordinary [] = true
-all_ordinary (c ∷ cs) = both (ordinary c) (all_ordinary cs)
+all_ordinary (c ∷ cs) = ordinary c && all_ordinary cs
 
 abbrev chars : (s : List ℕ) → T (all_ordinary s) → List Char
 chars [] t = []

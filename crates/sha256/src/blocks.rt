@@ -3,8 +3,8 @@ ghost use Rattle.std.specs.Prelude.{◌<◌};
 
 pub mod taking;
 
-// The hash of the whole blocks, and the unfinished one, of which the first `filled` bytes have come: a block with a length beside it,
-// since the library crates use no heap.
+// The hash of the whole blocks, and the unfinished one, of which the first `filled` bytes have come. A block with a length beside it, and no
+// vector: an answer is worked out on a copy, and a vector is not `Copy`.
 #[derive(Clone, Copy)]
 pub struct Blocks {
     words: [u32; 8],

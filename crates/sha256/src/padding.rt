@@ -37,10 +37,8 @@ pub fn put(dst: &mut [u8], at: usize, src: &[u8])
 pub fn spell(h: [u32; 8]) -> [u8; 32]
     ensures { result ≡ fips.spelled h }
 {
+    let words = h.map(u32::to_be_bytes);
     let mut out = [0u8; 32];
-    for (i, word) in h.iter().enumerate() {
-        let bytes = word.to_be_bytes();
-        put(&mut out, 4 * i, &bytes);
-    }
+    out.copy_from_slice(words.as_flattened());
     out
 }

@@ -41,6 +41,7 @@ pub fn maj(x: u32, y: u32, z: u32) -> u32
     (x & y) ^ (x & z) ^ (y & z)
 }
 
+// The four sigmas differ in their constants alone: the standard names each of them, and so do the clauses.
 pub fn big_sigma0(x: u32) -> u32
     ensures { result ≡ fips.Σ0 x }
 {

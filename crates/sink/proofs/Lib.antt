@@ -1,6 +1,5 @@
 pub mod Buffers
 pub mod Counts
-pub mod Decimals
 pub mod Digesting
 pub mod Hexing
 pub mod Writing

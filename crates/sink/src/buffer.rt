@@ -4,7 +4,8 @@ ghost use Rattle.sink.specs.Buffer.{pushing, buffered, buffered_wraps};
 
 use crate::{Full, Sink};
 
-// A lent buffer, of which the first `at` bytes are written: a slice with a place beside it, since the library crates use no heap.
+// A lent buffer, of which the first `at` bytes are written. A slice with a place beside it: the bytes are the caller's, and those past `at`
+// have to stay, so no vector serves, which owns its bytes.
 #[derive(Drop)]
 pub struct BufferWriter<'a> {
     buf: &'a mut [u8],

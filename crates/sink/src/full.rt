@@ -5,7 +5,7 @@ ghost use Rattle.std.specs.Prelude.{◌≡◌};
 pub struct Full;
 
 impl Full {
-    // The number by which every call tells this refusal.
+    // The number of this refusal among those of docs/CALLS.md. A method, since a struct without fields has no discriminant.
     pub fn number(self) -> u8
         ensures { result ≡ 39 }
     {

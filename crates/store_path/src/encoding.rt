@@ -18,11 +18,7 @@ fn five_at(bytes: &[u8; 20], b: usize) -> u8
     requires { b + 4 < 160 }
     ensures { result ≡ five bytes.now b }
 {
-    bit_at(bytes, b)
-        + 2 * bit_at(bytes, b + 1)
-        + 4 * bit_at(bytes, b + 2)
-        + 8 * bit_at(bytes, b + 3)
-        + 16 * bit_at(bytes, b + 4)
+    (0..5).fold(0, |n, i| n | bit_at(bytes, b + i) << i)
 }
 
 fn digit(n: u8) -> u8

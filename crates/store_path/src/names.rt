@@ -24,7 +24,7 @@ pub fn all_in(s: &[u8], alphabet: &[u8]) -> bool
 pub fn is_name(s: &[u8]) -> bool
     ensures { Decides result (Name s.now) }
 {
-    !s.is_empty() && s.len() <= 211 && s[0] != b'.' && all_in(s, NAME_BYTES)
+    s.first().is_some_and(|c| *c != b'.') && s.len() <= 211 && all_in(s, NAME_BYTES)
 }
 
 // What follows `/nix/store/` in a store path, as its digits and its name.
@@ -33,6 +33,7 @@ fn base_parts<'a>(s: &'a [u8]) -> Option<Parts<'a>>
 {
     let (digits, tail) = s.split_at_checked(32)?;
     let name = tail.strip_prefix(b"-")?;
+    // An `if`, no longer than `then_some`: the proof goes by its two arms.
     if all_in(digits, DIGITS) && is_name(name) {
         Some(Parts { digits, name })
     } else {
@@ -41,11 +42,27 @@ fn base_parts<'a>(s: &'a [u8]) -> Option<Parts<'a>>
 }
 
 // The digits and the name of a store path; None of anything else.
+// By a slice pattern, which is this project's form for fixed first bytes (docs/DECISIONS.md): those, and the rest.
 pub fn take_apart<'a>(path: &'a [u8]) -> Option<Parts<'a>>
     ensures { MatchOption result (StorePath path.now → ⊥) (λ p. Apart path.now p.digits.now p.name.now) }
 {
-    let rest = path.strip_prefix(b"/nix/store/")?;
-    base_parts(rest)
+    match path {
+        [
+            b'/',
+            b'n',
+            b'i',
+            b'x',
+            b'/',
+            b's',
+            b't',
+            b'o',
+            b'r',
+            b'e',
+            b'/',
+            rest @ ..,
+        ] => base_parts(rest),
+        _ => None,
+    }
 }
 
 pub fn is_store_path(s: &[u8]) -> bool

@@ -1,1 +1,3 @@
 mod Byte
+mod LineByLine
+pub mod TurnByTurn

@@ -1,45 +1,12 @@
-// Bytes in base 16, as the programs that run many cases read and print them.
+// What programs of cases and measurements share: bytes in base 16, the lines of their input, numbers among their arguments, work that is done again.
 #![tactic(auto)]
 
-ghost use Rattle.std.specs.Prelude.{◌≡◌, ◌/◌, ◌<◌, length, IfOk, Some, vec_len};
-ghost use Rattle.sink.specs.Numerals.{hex};
+mod argument;
+mod base16;
+mod lines;
+mod turns;
 
-use std::alloc::{AllocError, Global};
-use std::fmt;
-
-fn half(b: u8) -> u8
-    ensures { result < 16 }
-{
-    match b {
-        b'0'..=b'9' => b - b'0',
-        b'a'..=b'f' => b - b'a' + 10,
-        _ => 0,
-    }
-}
-
-// Two digits of base 16 a byte; what is no digit counts as 0, and an odd one at the end is left out.
-pub fn decode(heap: Global, digits: &[u8]) -> Result<Vec<u8>, AllocError>
-    ensures { IfOk result (λ v. vec_len v ≡ length digits.now / 2) }
-{
-    digits
-        .as_chunks::<2>()
-        .0
-        .iter()
-        .map(|pair| 16 * half(pair[0]) + half(pair[1]))
-        .collect(heap)
-}
-
-// Bytes as two digits each, in lower case.
-#[derive(Clone, Copy)]
-pub struct Hex<'a>(pub &'a [u8]);
-
-impl<'a> fmt::Display for Hex<'a> {
-    ghost output = { λ x. Some (hex x.0.now) };
-
-    fn fmt<W: fmt::Write>(&self, f: &mut fmt::Formatter<W>) -> fmt::Result {
-        for &b in self.0 {
-            write!(f, "{b:02x}")?;
-        }
-        Ok(())
-    }
-}
+pub use argument::number;
+pub use base16::{Hex, decode};
+pub use lines::each_line;
+pub use turns::repeat;

@@ -44,7 +44,7 @@ mod tests {
         let mut hasher = Sha256::new();
         hasher.write(b"forgotten")?;
         hasher.begin();
-        for _i in 0..1000u32 {
+        for _ in 0..1000u32 {
             hasher.write(&piece)?;
         }
         assert_eq!(rt; hasher.answer(), told);
@@ -58,7 +58,7 @@ mod tests {
             *b"\x08\x0a\xcf\x35\xa5\x07\xac\x98\x49\xcf\xcb\xa4\x7d\xc2\xad\x83\xe0\x1b\x75\x66\x3a\x51\x62\x79\xc8\xb9\xd2\x43\xb7\x19\x64\x3e";
         let piece = [0u8; 65536];
         let mut hasher = Sha256::new();
-        for _i in 0..256u32 {
+        for _ in 0..256u32 {
             hasher.write(&piece)?;
         }
         assert_eq!(rt; hasher.answer(), told);

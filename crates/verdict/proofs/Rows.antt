@@ -42,7 +42,7 @@ same_no P Q there back rows w f = record {
 }
 
 -- its row stands among them
-in_middle : {X : Type 0} (x : X) (xs ys : List X) → Member x (xs ++ x ∷ ys)
+pub in_middle : {X : Type 0} (x : X) (xs ys : List X) → Member x (xs ++ x ∷ ys)
 in_middle x [] ys = inl refl
 in_middle x (y ∷ xs) ys = inr (in_middle x xs ys)
 

@@ -15,7 +15,7 @@ pub enum Fault {
     WrongPath,
     // 22: the path of this output row is not the right one.
     WrongOutput(Spot),
-    // 23: the environment does not have the name of an output with the right path: the row with that name, or row 0.
+    // 23: the environment does not have the name of an output with the right path: the row with that name, or row and place 0, which is what is printed where no row has it.
     WrongVariable(Spot),
     // 24: the text is not canonical; it differs from the canonical text from this place on.
     NotCanonical(usize),

@@ -5,7 +5,8 @@ ghost use Rattle.verdict.specs.Verdicts.{fault_details, verdict_details, told_ro
 use crate::fault::Fault;
 use derivation::{Spot, Told};
 
-// A fault at a row. Its number and layer stand beside the variant, since `as` takes enums without fields alone.
+// A fault at a row. The numbers stand beside the variants and not in an enum inside `Fault`, as `Question` is inside `FileFault`: the variants are public, and that form would change them.
+// derivation tells its questions so in one arm: a constructor of `Told` would be one public function more for one struct literal there.
 fn tell_row(number: u8, layer: u8, spot: Spot) -> Told
     ensures { result ≡ told_row number layer spot }
 {
@@ -49,12 +50,9 @@ impl From<Fault> for Told {
     }
 }
 
-// What the verdict says; all 0 where the file is accepted. A function, since neither `Result` nor `Told` is of this crate, where a `From` could stand.
+// What the verdict says; all 0 where the file is accepted.
 pub fn tell_verdict(verdict: Result<(), Fault>) -> Told
     ensures { result ≡ verdict_details verdict }
 {
-    match verdict {
-        Ok(()) => Told::default(),
-        Err(fault) => fault.into(),
-    }
+    verdict.into()
 }

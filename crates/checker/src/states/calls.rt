@@ -1,24 +1,16 @@
 // What is asked of the rows, and how one of them changes.
-ghost use Rattle.std.specs.Prelude.{◌≡◌, ℕ, ◌<◌, ◌≤◌, length, slice_set};
+ghost use Rattle.std.specs.Prelude.{◌≡◌, ℕ, ◌≤◌};
 ghost use Rattle.checker.specs.Rows.{row_at, RowChanged};
 ghost use Rattle.checker.specs.declared.state.State.TheVariants.{Pending as Waiting};
 
 use super::States;
 use crate::state::State;
 
-// A row is lent to be changed.
+// A row is lent to be changed, as is this project's rule (docs/DECISIONS.md).
 fn change(row: &mut State, state: State)
     ensures { row.new ≡ state }
 {
     *row = state;
-}
-
-// The row at a place of the table is lent to be changed.
-fn put_row(rows: &mut [State; 256], at: usize, state: State)
-    requires { at < length rows.old }
-    ensures { rows.new ≡ slice_set rows.old at state }
-{
-    change(&mut rows[at], state);
 }
 
 impl States {
@@ -35,10 +27,10 @@ impl States {
     pub fn get(&self, file: usize) -> State
         ensures { result ≡ row_at self.now file }
     {
-        let Some(row) = file.checked_sub(1).and_then(|before| self.rows.get(before)) else {
-            return State::Pending;
-        };
-        *row
+        file.checked_sub(1)
+            .and_then(|before| self.rows.get(before))
+            .copied()
+            .unwrap_or(State::Pending)
     }
 
     // The file of this number is now in this state; the others stay.
@@ -46,6 +38,6 @@ impl States {
         requires { (1 ≤ file) × (file ≤ 256) }
         ensures { RowChanged self.old file state self.new }
     {
-        put_row(&mut self.rows, file - 1, state);
+        change(&mut self.rows[file - 1], state);
     }
 }

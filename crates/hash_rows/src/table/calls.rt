@@ -1,7 +1,9 @@
 // What is asked of the table, and how it changes.
-ghost use Rattle.std.specs.Prelude.{◌≡◌, ◌+◌, ◌<◌, ◌≤◌, [], length};
+ghost use Rattle.std.specs.Prelude.{◌≡◌, ◌+◌, ◌<◌, ◌≤◌, List, [], length};
+ghost use Rattle.std.specs.Iterator.{AlwaysYields, UpTo};
 ghost use Rattle.hash_rows.specs.Rows.{row_of, Found, Rises, Placed, Gathered};
 ghost use Rattle.hash_rows.specs.Seen.{held};
+ghost use Rattle.hash_rows.specs.declared.hash.HashRow.{HashRow};
 
 use super::HashRows;
 use crate::hash::{Hash, HashRow};
@@ -47,15 +49,23 @@ fn place(rows: &[HashRow], hash: &Hash) -> Result<usize, usize>
     rows.binary_search_by(|x| x.hash.cmp(hash))
 }
 
-// The last pair of each hash. For the crate above, which has at most 64 pairs.
-#[tactic(auto, using(crate::proofs::Gathering::gathered_none))]
-pub fn gather(pairs: &[HashRow]) -> HashRows
-    requires { length pairs.now ≤ 64 }
-    ensures { Gathered pairs.now (held result) }
+// The last row of each hash among those that come. For the crate above, which has at most 64 rows.
+pub fn gather_from<I: Iterator<Item = HashRow> + Drop>(pairs: I) -> HashRows
+    requires can { I.Iterator.can_next pairs }
+    requires few { UpTo (I.Iterator.remaining pairs) 64 }
+    ensures { (ps : List HashRow) → AlwaysYields I.Iterator.next_gives (λ x. x) pairs ps → Gathered ps (held result) }
 {
     let mut table = HashRows::new();
     for pair in pairs {
         table = table.with(pair.hash, pair.row);
     }
     table
+}
+
+// The last pair of each hash. For the crate above, which has at most 64 pairs.
+pub fn gather(pairs: &[HashRow]) -> HashRows
+    requires { length pairs.now ≤ 64 }
+    ensures { Gathered pairs.now (held result) }
+{
+    gather_from(pairs.iter().copied())
 }

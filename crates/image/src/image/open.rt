@@ -6,8 +6,8 @@ ghost use Rattle.image.specs.Opening.{Refused, FilesTold, SomeAnswer, OneAnswer}
 
 use super::{File, Image};
 use crate::chain::Chain;
-use crate::fields::le16_at;
-use crate::questions::{AskInside, AskNamed, AskNew, ask_each};
+use crate::fields::bytes_at;
+use crate::questions::{ask_each, is_named, is_new};
 use crate::refusal::Refusal;
 
 // The longest image.
@@ -23,7 +23,7 @@ fn ask_whole(bytes: &[u8]) -> Result<(), Refusal>
     if bytes.len() < 4 || bytes.len() > LONGEST {
         return Err(Refusal::Size);
     }
-    let count = le16_at(bytes, 0);
+    let count = u16::from_le_bytes(bytes_at(bytes, 0));
     if count > MOST_SLOTS || 4 + 16 * count as usize > bytes.len() {
         return Err(Refusal::Slots);
     }
@@ -34,9 +34,9 @@ fn ask_whole(bytes: &[u8]) -> Result<(), Refusal>
 fn ask_files(chain: &Chain<'_>) -> Result<(), Refusal>
     ensures { FilesTold chain.now.bytes.now chain.now.count result }
 {
-    ask_each(&AskInside, chain).map_err(Refusal::Part)?;
-    ask_each(&AskNamed, chain).map_err(Refusal::Path)?;
-    ask_each(&AskNew, chain).map_err(Refusal::Repeated)
+    ask_each(chain, |n| chain.slot(n).is_inside()).map_err(Refusal::Part)?;
+    ask_each(chain, |n| is_named(chain, n)).map_err(Refusal::Path)?;
+    ask_each(chain, |n| is_new(chain, n)).map_err(Refusal::Repeated)
 }
 
 impl<'a> Image<'a> {
@@ -44,8 +44,9 @@ impl<'a> Image<'a> {
     pub fn empty() -> Image<'a>
         ensures { (bytes_of result ≡ 0 ∷ 0 ∷ 0 ∷ 0 ∷ []) × (files_of result ≡ 0) }
     {
-        let chain = Chain::empty(&[0, 0, 0, 0]);
-        Image { chain }
+        Image {
+            chain: Chain::empty(&[0, 0, 0, 0]),
+        }
     }
 
     // Puts every question to the bytes, in their order: the image over them, or the first question with the answer no.
@@ -71,9 +72,10 @@ impl<'a> Image<'a> {
         ensures { FileAt (bytes_of self.now) (files_of self.now) number result }
     {
         let slot = self.chain.get(number.checked_sub(1)?)?;
-        let path = slot.named_path();
-        let text = slot.named_text();
-        Some(File { path, text })
+        Some(File {
+            path: slot.named_path(),
+            text: slot.named_text(),
+        })
     }
 }
 

@@ -1,4 +1,4 @@
-use Rattle.std.proofs.Common.{[], List, ℕ, Ok, Err, subst, rules}
+use Rattle.std.proofs.Common.{List, ℕ, Ok, subst}
 use Rattle.image.specs.Files.{files_of}
 use Rattle.sink.specs.Digest.{digest}
 use Rattle.listing.specs.Listing.{FilesWritten}
@@ -12,6 +12,3 @@ returns-in-Ok g c =
     let o = c.in-Ok.ensures in
     let (told, judged, writes) = subst (λ (b : List ℕ). FilesWritten g.S.Sink.step (g.S.Sink.held c.args.out.now) D b n c.write_files.result (g.S.Sink.held c.write_files.new.out)) o.0 c.write_files.ensures in
     record { answer = Ok n; answered = answered c.args.bytes.now n o.1 o.2; told = told; judged = judged; writes = writes }
-
-pub returns-in-Err : goal.returns-in-Err
-returns-in-Err g c = record { answer = Err c.in-Err.refusal; answered = c.in-Err.ensures; told = []; judged = tt; writes = search rules }

@@ -1,9 +1,10 @@
-use Rattle.std.proofs.Common.{◌∙◌}
-use Rattle.sha256_bench.proofs.Samples.{sample_none, sample_more}
+use Rattle.std.proofs.Common.{◌≡◌, ◌%◌, IfOk, subst, rules, arith}
+use Rattle.std.proofs.lemmas.Iterator.{YieldsList-from_range, YieldsList-from_map, items_from_collect}
+use Rattle.sha256_bench.proofs.Samples.{chain_is_sample}
 use Rattle.sha256_bench.proofs.make.Goals as goal
 
-pub loop-i-init : goal.loop-i-init
-loop-i-init c = c.in_ok-made.ensures.items ∙ sample_none
-
-pub loop-i-preserved : goal.loop-i-preserved
-loop-i-preserved c = sample_more _ _ c.loop-i.i c.loop-i.invariant c.in_ok-push.ensures.items
+pub returns : goal.returns
+returns c =
+    subst (λ bytes. IfOk c.collect.result (λ v. v.items ≡ bytes)) (chain_is_sample c.args.size)
+    (items_from_collect c.collect.result c.collect.ensures.ran
+    (YieldsList-from_map _ (λ i. i % 251) (YieldsList-from_range 0 c.args.size c.args.size c.map.ensures.source (omega arith)) c.map.ensures.closure (λ x r q k. search rules)))

@@ -11,6 +11,6 @@ pub returns : goal.returns
 returns g c = λ at t m h a p.
     let text = c.args.text.now in
     let v = derivation_value text c.args.file in
-    let w = derivation_value text c.sorted-arranged.result in
-    let means = settles a_derivation t v w a (derivation_tells text at c.args.file t h) c.sorted-arranged.ensures in
+    let w = derivation_value text c.sorted.result in
+    let means = settles a_derivation t v w a (derivation_tells text at c.args.file t h) c.sorted.ensures in
     as_text (ap canonical (means_once a_derivation t w m means p)) c.write_derivation.ensures

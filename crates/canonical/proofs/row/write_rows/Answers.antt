@@ -1,22 +1,20 @@
-use Rattle.std.proofs.Common.{[], ◌∷◌, ◌++◌}
-use Rattle.std.specs.List.{flat_map}
 use Rattle.sink.proofs.Writing.{as_text, then, stop}
-use Rattle.canonical.specs.Kinds.{canon, comma}
-use Rattle.canonical.proofs.Leading.{through, listing_some}
+use Rattle.canonical.specs.Kinds.{canon}
+use Rattle.canonical.proofs.Leading.{listing_some}
 use Rattle.canonical.proofs.row.write_rows.Goals as goal
 
 pub returns-in_err-write_text-in-Some : goal.returns-in_err-write_text-in-Some
 returns-in_err-write_text-in-Some g c =
     as_text (listing_some (canon g.T.Canon.kind) (g.T.Canon.value c.args.text.now) c.args.rows.now c.in-Some.rest.now c.in-Some.first.now c.in-Some.ensures.cases.0)
     (then c.in_ok-write-in-Some.ensures.writes
-    (stop (flat_map (comma (through (canon g.T.Canon.kind) (g.T.Canon.value c.args.text.now))) c.in-Some.rest.now ++ (93 ∷ [])) c.in_err-write_text-in-Some.ensures c.from_residual-in_err-write_text-in-Some.ensures.0))
+    (stop _ c.in_err-write_text-in-Some.ensures c.from_residual-in_err-write_text-in-Some.ensures.0))
 
 pub returns-in_err-write_rests-in-Some : goal.returns-in_err-write_rests-in-Some
 returns-in_err-write_rests-in-Some g c =
     as_text (listing_some (canon g.T.Canon.kind) (g.T.Canon.value c.args.text.now) c.args.rows.now c.in-Some.rest.now c.in-Some.first.now c.in-Some.ensures.cases.0)
     (then c.in_ok-write-in-Some.ensures.writes
     (then c.in_ok-write_text-in-Some.ensures
-    (stop (93 ∷ []) c.in_err-write_rests-in-Some.ensures c.from_residual-in_err-write_rests-in-Some.ensures.0)))
+    (stop _ c.in_err-write_rests-in-Some.ensures c.from_residual-in_err-write_rests-in-Some.ensures.0)))
 
 pub returns-in_ok-write_rests-in-Some : goal.returns-in_ok-write_rests-in-Some
 returns-in_ok-write_rests-in-Some g c =

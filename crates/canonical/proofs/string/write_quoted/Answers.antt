@@ -1,11 +1,8 @@
-use Rattle.std.proofs.Common.{ℕ, refl, sym, ap, subst}
+use Rattle.std.proofs.Common.{ℕ, sym, ap, subst}
 use Rattle.std.specs.Iterator.{AlwaysYields}
-use Rattle.sink.proofs.Writing.{then, same_leads}
+use Rattle.sink.proofs.Writing.{then}
 use Rattle.canonical.proofs.Leading.{lead_more, lead_stop, lead_end, spelt, spelt_more, one_came, none_came}
 use Rattle.canonical.proofs.string.write_quoted.Goals as goal
-
-pub loop-b-init : goal.loop-b-init
-loop-b-init g c = λ xs a. (xs, a, same_leads refl)
 
 pub loop-b-preserved : goal.loop-b-preserved
 loop-b-preserved g c = λ xs a.

@@ -10,7 +10,7 @@ use Rattle.derivation.proofs.ask.all_yes.Goals as goal
 
 pub returns : goal.returns
 returns g c = λ from xs a.
-    let s = g.Q.Ask.shape in
+    let s = g.Q.Ask.rows.shape in
     let yes = g.Q.Ask.yes c.args.ask.now in
     let r = c.is_none.result in
     let o : Option Spot = option_map (λ p. record { field = Outputs; row = p.0 + 1; place = p.1.now.place }) c.first_no.result in

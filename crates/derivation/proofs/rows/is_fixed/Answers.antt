@@ -1,14 +1,11 @@
-use Rattle.std.proofs.Common.{◌≡◌, ◌&&◌, eqb, length, Decides, subst}
-use Rattle.std.proofs.lemmas.Bool.Decides.{Decides-like, Decides-and, Decides-eqb}
-use Rattle.aterm.specs.Files.{output, in_output}
-use Rattle.derivation.proofs.Scan.{each_length}
-use Rattle.derivation.proofs.Held.{fixed_from, fixed_to}
+use Rattle.std.proofs.Common.{rules, tests}
+use Rattle.std.proofs.lemmas.Bool.{false≢true}
+use Rattle.aterm.specs.Files.{in_output}
+use Rattle.derivation.proofs.Held.{fixed_only, not_fixed}
 use Rattle.derivation.proofs.rows.is_fixed.Goals as goal
 
-pub returns : goal.returns
-returns c = λ from xs a.
-    let vs = c.args.outputs.now in
-    let one = eqb (length vs) 1 in
-    let rest = c.all_yes.result in
-    Decides-like (one && rest) (fixed_from xs) (fixed_to xs)
-    (Decides-and one rest (subst (λ n. Decides one (n ≡ 1)) (each_length output (in_output c.args.text.now) from vs xs a) (Decides-eqb (length vs) 1)) (c.all_yes.ensures from xs a))
+pub returns-in-len1 : goal.returns-in-len1
+returns-in-len1 c = λ from xs a. fixed_only (in_output c.args.text.now) from c.args.outputs.now xs c.in-len1.len_below c.in-len1.len_at_least a _ (λ p e. search (rules, tests)) c.says.result c.says.ensures
+
+pub returns-in_default-2 : goal.returns-in_default-2
+returns-in_default-2 c = λ from xs a. (λ t. absurd (false≢true t), λ f. absurd (not_fixed (in_output c.args.text.now) from c.args.outputs.now xs c.in_default.len_at_least a f))

@@ -1,13 +1,12 @@
-use Rattle.std.proofs.Common.{◌||◌}
-use Rattle.std.proofs.lemmas.Bool.Decides.{Decides-or, Decides-like}
-use Rattle.derivation.proofs.Held.{given_from, given_to}
+use Rattle.std.proofs.Common.{rules, tests, codes, sym, ap}
+use Rattle.std.proofs.lemmas.Bool.Decides.{Decides-eqb}
+use Rattle.std.proofs.lemmas.Slice.Eq.{strip_prefix_is}
+use Rattle.derivation.proofs.Held.{given_by}
 use Rattle.derivation.proofs.rows.is_given.Goals as goal
 
 pub returns : goal.returns
 returns c =
-    let p = c.is_called.result in
-    let q = c.is_called-2.result in
-    let r = c.is_called-3.result in
-    let s = c.is_called-4.result in
-    Decides-like (((p || q) || r) || s) (given_from c.args.algorithm.now c.args.hash.now) (given_to c.args.algorithm.now c.args.hash.now)
-    (Decides-or ((p || q) || r) s (Decides-or (p || q) r (Decides-or p q c.is_called.ensures c.is_called-2.ensures) c.is_called-3.ensures) c.is_called-4.ensures)
+    let a = c.args.algorithm in
+    let m = strip_prefix_is Decides-eqb a.now (codes "r:") c.strip_prefix.result c.strip_prefix.ensures.cases in
+    given_by a c.strip_prefix.result m c.args.hash.now c.unwrap_or-bare.result.now (ap (λ b. b.now) (sym c.unwrap_or-bare.ensures)) c.digits_of.result c.digits_of.ensures c.is_some_and.result _ c.is_some_and.ensures
+    (λ n p. search (rules, tests))

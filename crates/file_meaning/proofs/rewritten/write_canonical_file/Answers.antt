@@ -1,12 +1,7 @@
-use Rattle.std.proofs.Common.{◌≡◌, Err, refl, rules}
-use Rattle.file_meaning.specs.declared.rewritten.Unwritten.TheVariants.{Fault, Full}
+use Rattle.std.proofs.Common.{◌≡◌, Err, rules}
+use Rattle.file_meaning.specs.declared.rewritten.Unwritten.TheVariants.{Full}
 use Rattle.file_meaning.proofs.Again.{accepted}
 use Rattle.file_meaning.proofs.rewritten.write_canonical_file.Goals as goal
-
-pub returns-in_err-file : goal.returns-in_err-file
-returns-in_err-file g c =
-    let is : c.from_residual.result ≡ Err (Fault c.in_err-file.field-0.0) = search rules in
-    rw is (c.in_err-file.ensures.0, refl)
 
 pub returns-in_err-write_canonical : goal.returns-in_err-write_canonical
 returns-in_err-write_canonical g c =

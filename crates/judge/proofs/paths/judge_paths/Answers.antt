@@ -1,7 +1,8 @@
-use Rattle.std.proofs.Common.{◌≡◌, ◌+◌, List, take, sym, refl, subst}
+use Rattle.std.proofs.Common.{◌≡◌, ◌+◌, List, sym, refl, subst}
 use Rattle.std.proofs.lemmas.Bool.{false≢true}
 use Rattle.aterm.specs.Files.{output, variable, in_output, in_variable}
 use Rattle.aterm.specs.Reads.{Each}
+use Rattle.aterm.specs.Tables.{rows_of}
 use Rattle.aterm.specs.declared.file.Derivation.{Derivation}
 use Rattle.aterm.specs.declared.file.Output.{Output}
 use Rattle.aterm.specs.declared.file.Variable.{Variable}
@@ -16,10 +17,10 @@ use Rattle.judge.proofs.paths.judge_paths.Goals as goal
 
 -- the rows that the file was read with
 module _ (path text : Bytes) (file arranged : Derivation) (j : Judgeable path text file arranged) where
-  outputs_held : (vs : List (Placed Output)) → vs ≡ take file.outputs.len file.outputs.items → Each output (in_output text) 8 vs j.tree.0
+  outputs_held : (vs : List (Placed Output)) → vs ≡ rows_of file.outputs → Each output (in_output text) 8 vs j.tree.0
   outputs_held vs e = subst (λ (l : List (Placed Output)). Each output (in_output text) 8 l j.tree.0) (sym e) j.held.0
 
-  variables_held : (us : List (Placed Variable)) → us ≡ take file.environment.len file.environment.items → Each variable (in_variable text) (place_7 j.tree + 1) us j.tree.1.1.1.1.1.1
+  variables_held : (us : List (Placed Variable)) → us ≡ rows_of file.environment → Each variable (in_variable text) (place_7 j.tree + 1) us j.tree.1.1.1.1.1.1
   variables_held us e = subst (λ (l : List (Placed Variable)). Each variable (in_variable text) (place_7 j.tree + 1) l j.tree.1.1.1.1.1.1) (sym e) j.held.1.1.1.1.1.1
 
 pub returns-then-not-is_own : goal.returns-then-not-is_own

@@ -1,17 +1,20 @@
-use Rattle.std.proofs.Common.{◌<◌, length, get_or, refl, arith}
-use Rattle.std.proofs.lemmas.List.{get_or_default}
-use Rattle.aterm.proofs.Changing.{partway_none, partway_more, partway_first}
+use Rattle.std.proofs.Common.{◌≡◌, ◌+◌, ◌<◌, length, take, get_or, refl, ap, ◌∙◌, subst}
+use Rattle.aterm.specs.declared.rows.Placed.{Placed}
+use Rattle.aterm.specs.Tables.{rows_of}
+use Rattle.aterm.proofs.Changing.{zip_none, zip_more}
+use Rattle.aterm.proofs.rows.Rows.map.Given as given
 use Rattle.aterm.proofs.rows.Rows.map.Goals as goal
 
-pub loop-i-init : goal.loop-i-init
-loop-i-init g c = partway_none _ c.args.self.items
+pub loop-row-init : goal.loop-row-init
+loop-row-init g c =
+    let none = c.cut-changed.result in
+    (c.cut-changed.ensures, zip_none (λ (v w : Placed g.row.T.Denot). (w.place ≡ v.place) × given.F-post g c.args.change v.value w.value) (rows_of none) (ap (λ k. take k none.items) c.cut-changed.ensures))
 
-pub loop-i-preserved : goal.loop-i-preserved
-loop-i-preserved g c =
-    let xs = c.loop-i.items in
-    let i = c.loop-i.i in
-    let h : i < length xs = omega arith in
-    partway_more _ c.args.self.items xs i c.loop-i.invariant h (get_or xs i c.index-items-i.result) _ (get_or_default xs i c.index-items-i.result (get_or xs i c.index-items-i.result) h) (refl, c.change-value.ensures)
-
-pub returns-clause-rows : goal.returns-clause-rows
-returns-clause-rows g c = partway_first _ c.args.self.items c.loop-i.items c.loop-i.i c.loop-i.invariant c.args.self.len c.loop-i-test.false
+pub loop-row-preserved : goal.loop-row-preserved
+loop-row-preserved g c =
+    let i = c.loop-row.row-index in
+    let v = c.row-item.result in
+    let e = c.as_slice-row-items.ensures in (
+      c.push.ensures.len ∙ ap (λ k. k + 1) c.loop-row.invariant.0,
+      zip_more _ (rows_of c.args.self) (rows_of c.loop-row.changed) (rows_of c.push.new.self) i v _ (subst (λ l. i < length l) e c.loop-row-test.true) (subst (λ l. v ≡ get_or l i v) e c.row-item.is) c.loop-row.invariant.1 (refl, c.change-value.ensures) c.push.ensures.items,
+    )

@@ -1,9 +1,10 @@
-use Rattle.std.proofs.Common.{◌+◌, sym, subst, ap, ◌∙◌}
-use Rattle.std.specs.Option.{option_or}
+use Rattle.std.proofs.Common.{rules, tests, ◌+◌}
 use Rattle.aterm.specs.Grammar.{string}
 use Rattle.aterm.specs.Files.{output, input, variable, in_output, in_input, in_variable, span}
-use Rattle.derivation.specs.Asked.{First}
-use Rattle.derivation.specs.Questions.{entries, different, place_2, place_3, place_7}
+use Rattle.derivation.specs.Asked.{Scans}
+use Rattle.derivation.specs.declared.field.Field.TheVariants.{Inputs, Sources, Environment}
+use Rattle.derivation.specs.Keys.{key_of}
+use Rattle.derivation.specs.Questions.{different, different_input, fresh, different_variable, place_2, place_3, place_7}
 use Rattle.derivation.proofs.Scan.{each_as}
 use Rattle.derivation.proofs.Files.{by_lists}
 use Rattle.derivation.proofs.file.Asked.different.Goals as goal
@@ -11,9 +12,11 @@ use Rattle.derivation.proofs.file.Asked.different.Goals as goal
 pub returns : goal.returns
 returns c = λ x h.
     let t = c.args.self.now.text.now in
-    let o = each_as output (in_output t) 8 x.0 c.as_slice.ensures h.0 in
-    let i = each_as input (in_input t) (place_2 x + 1) x.1.0 c.as_slice-2.ensures h.1.0 in
-    let s = each_as string (λ p v. span t v p) (place_3 x + 1) x.1.1.0 c.as_slice-3.ensures h.1.1.0 in
-    let v = each_as variable (in_variable t) (place_7 x + 1) x.1.1.1.1.1.1 c.as_slice-4.ensures h.1.1.1.1.1.1 in
-    subst (First different (entries x)) (sym (c.or-3.ensures ∙ ap (λ r. option_or r c.spot_of_no-variables.result) (c.or-2.ensures ∙ ap (λ r. option_or r c.spot_of_no-sources.result) c.or.ensures)))
-    (by_lists x different tt _ _ _ _ (c.spot_of_no-outputs.ensures 8 x.0 o) (c.spot_of_no-inputs.ensures (place_2 x + 1) x.1.0 i) (c.spot_of_no-sources.ensures (place_3 x + 1) x.1.1.0 s) (c.spot_of_no-variables.ensures (place_7 x + 1) x.1.1.1.1.1.1 v))
+    let o = each_as output (in_output t) 8 x.0 c.as_slice-outputs.ensures h.0 in
+    let i = each_as input (in_input t) (place_2 x + 1) x.1.0 c.as_slice-inputs.ensures h.1.0 in
+    let s = each_as string (λ p v. span t v p) (place_3 x + 1) x.1.1.0 c.as_slice-sources.ensures h.1.1.0 in
+    let v = each_as variable (in_variable t) (place_7 x + 1) x.1.1.1.1.1.1 c.as_slice-variables.ensures h.1.1.1.1.1.1 in
+    by_lists x different tt c.spot_of_no.result c.or_else.result c.or_else-2.result c.or_else-3.result _ _ _ (c.spot_of_no.ensures 8 x.0 o)
+    c.or_else.ensures (λ p. let k : Scans input (in_input t) different_input Inputs c.as_slice-inputs.result.now c.or_else.result = search (rules, tests) in k (place_2 x + 1) x.1.0 i)
+    c.or_else-2.ensures (λ p. let k : Scans string (λ p v. span t v p) (fresh (key_of string)) Sources c.as_slice-sources.result.now c.or_else-2.result = search (rules, tests) in k (place_3 x + 1) x.1.1.0 s)
+    c.or_else-3.ensures (λ p. let k : Scans variable (in_variable t) different_variable Environment c.as_slice-variables.result.now c.or_else-3.result = search (rules, tests) in k (place_7 x + 1) x.1.1.1.1.1.1 v)

@@ -1,12 +1,7 @@
 use Rattle.std.proofs.Common.{Decides, subst, ◌∙◌}
-use Rattle.std.proofs.lemmas.Bool.Decides.{Decides-and}
 use Rattle.store_path.specs.Names.{StorePath}
 use Rattle.derivation.specs.Questions.{Plain}
 use Rattle.derivation.proofs.formed.FormedSourceAskSpan.says.Goals as goal
 
 pub returns : goal.returns
-returns c = λ from xs at x a h.
-    let e = c.bytes-path.ensures ∙ h.cut in
-    Decides-and c.is_plain.result c.is_store_path.result
-    (subst (λ b. Decides c.is_plain.result (Plain b)) e c.is_plain.ensures.plain)
-    (subst (λ b. Decides c.is_store_path.result (StorePath b)) e c.is_store_path.ensures)
+returns c = λ from xs at x a h. subst (λ b. Decides c.is_plain_path.result (Plain b × StorePath b)) (c.bytes.ensures ∙ h.cut) c.is_plain_path.ensures

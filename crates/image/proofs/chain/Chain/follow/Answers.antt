@@ -7,18 +7,18 @@ use Rattle.image.proofs.chain.Chain.follow.Goals.{Else-not-may_follow}
 -- the index may follow, so that one more slot fits the table
 good : (c : Else-not-may_follow) → Good c.args.bytes.now c.loop-index.count
 good c =
-    test_good c.args.bytes.now c.loop-index.slots c.loop-index.count c.loop-index.slot c.loop-index.index c.le16_at-last.result c.may_follow.result
-    c.requires.1 c.loop-index.invariant.0 (omega (arith, c.loop-index-test.true)) c.loop-index.invariant.1 c.le16_at-last.ensures c.may_follow.ensures c.if-not-may_follow.false
+    test_good c.args.bytes.now c.loop-index.slots c.loop-index.count c.loop-index.slot c.loop-index.index _ c.may_follow.result
+    c.requires.1 c.loop-index.invariant.0 (omega (arith, c.loop-index-test.true)) c.loop-index.invariant.1 (search (rules, c.bytes_at.ensures)) c.may_follow.ensures c.if-not-may_follow.false
 
 pub loop-index-init : goal.loop-index-init
-loop-index-init c = (walk_none c.args.bytes.now _ _ (search rules) c.le16_at-index.ensures, omega arith)
+loop-index-init c = (walk_none c.args.bytes.now _ _ (search rules) (search (rules, c.bytes_at-2.ensures)), omega arith)
 
 pub returns-then-not-may_follow : goal.returns-then-not-may_follow
 returns-then-not-may_follow c = (
   c.requires.0,
   c.requires.1,
-  test_bad c.args.bytes.now c.loop-index.slots c.loop-index.count c.loop-index.slot c.loop-index.index c.le16_at-last.result c.may_follow.result
-      c.requires.1 c.loop-index.invariant.0 (omega (arith, c.loop-index-test.true)) c.loop-index.invariant.1 c.le16_at-last.ensures c.may_follow.ensures c.if-not-may_follow.true,
+  test_bad c.args.bytes.now c.loop-index.slots c.loop-index.count c.loop-index.slot c.loop-index.index _ c.may_follow.result
+      c.requires.1 c.loop-index.invariant.0 (omega (arith, c.loop-index-test.true)) c.loop-index.invariant.1 (search (rules, c.bytes_at.ensures)) c.may_follow.ensures c.if-not-may_follow.true,
 )
 
 pub bounds-slots-count : goal.bounds-slots-count

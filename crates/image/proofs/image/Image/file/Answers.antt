@@ -12,12 +12,6 @@ inside c =
     let e = c.in_ok-slot.ensures in
     subst (λ (b : Bor (List ℕ)). Inside b.now c.in_ok-slot.slot.index) (sym e.1) (slot_inside s.chain.bytes.now s.chain.count s.opens _ _ e.0 e.2)
 
-pub named_path-path-requires : goal.named_path-path-requires
-named_path-path-requires c = inside c
-
-pub named_text-text-requires : goal.named_text-text-requires
-named_text-text-requires c = inside (goal.at.named_text-text-requires c).In_ok-slot
-
 pub returns : goal.returns
 returns c =
     let img = c.args.self.now.chain.bytes.now in
@@ -26,7 +20,7 @@ returns c =
     let is : slot.index ≡ link img (c.args.number - 1) = e.2 ∙ ap (link img) (omega (arith, c.in_ok-checked_sub.ensures)) in (
       omega (arith, c.in_ok-checked_sub.ensures),
       omega (arith, c.in_ok-checked_sub.ensures, e.0),
-      c.named_path-path.ensures ∙ ap (λ (b : Bor (List ℕ)). path_in b.now slot.index) e.1 ∙ ap (path_in img) is,
-      c.named_text-text.ensures ∙ ap (λ (b : Bor (List ℕ)). text_in b.now slot.index) e.1 ∙ ap (text_in img) is,
-      text_short slot.bytes.now slot.index c.named_text-text.result.now c.named_text-text.ensures (inside (goal.at.returns c).In_ok-slot),
+      c.named_path.ensures ∙ ap (λ (b : Bor (List ℕ)). path_in b.now slot.index) e.1 ∙ ap (path_in img) is,
+      c.named_text.ensures ∙ ap (λ (b : Bor (List ℕ)). text_in b.now slot.index) e.1 ∙ ap (text_in img) is,
+      text_short slot.bytes.now slot.index c.named_text.result.now c.named_text.ensures (inside (goal.at.returns c).In_ok-slot),
     )

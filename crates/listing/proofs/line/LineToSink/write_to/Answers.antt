@@ -1,9 +1,6 @@
 use Rattle.sink.proofs.Writing.{then, stop}
 use Rattle.listing.proofs.line.LineToSink.write_to.Goals as goal
 
-pub returns-in_err-write_decimal : goal.returns-in_err-write_decimal
-returns-in_err-write_decimal g c = stop _ c.in_err-write_decimal.ensures.writes c.from_residual.ensures.0
-
 pub returns-in_err-write_told : goal.returns-in_err-write_told
 returns-in_err-write_told g c =
     then c.in_ok-write_decimal.ensures.writes

@@ -1,4 +1,4 @@
-use Rattle.std.proofs.Common.{◌≡◌, ap}
+use Rattle.std.proofs.Common.{◌≡◌, length, rules, ap}
 use Rattle.std.proofs.lemmas.Result.{MatchResult-from_err}
 use Rattle.sink.specs.Write.{Held}
 use Rattle.recorder.specs.Record.{recording, recorded}
@@ -24,12 +24,13 @@ returns-in_err-write g c =
 pub returns : goal.returns
 returns g c =
     let s = c.args.self.now in
+    let long : length s.table.bytes ≡ 4096 = search rules in
     record {
       writes =
           record {
             told =
                 recorded_taken g.S.Sink.step s.table.count _ s.table.bytes _ c.args.bytes.now (g.S.Sink.held s.below) (g.S.Sink.held c.write.new.self)
-                s.table.long c.keep.ensures.0 c.keep.ensures.1 c.in_ok-write.ensures.writes.told;
+                long c.keep.ensures.0 c.keep.ensures.1 c.in_ok-write.ensures.writes.told;
           };
       same = tt;
     }

@@ -1,4 +1,4 @@
-use Rattle.std.proofs.Common.{decimal, ap}
+use Rattle.std.proofs.Common.{◌∷◌, decimal, ap}
 use Rattle.sink.proofs.Writing.{then, stop, as_text}
 use Rattle.report.proofs.lines.SummaryToSink.write_to.Goals as goal
 
@@ -10,22 +10,14 @@ returns-in_err-write_column g c =
     then c.in_ok-write_decimal.ensures.writes
     (stop _ c.in_err-write_column.ensures c.from_residual-in_err-write_column.ensures.0)
 
-pub returns-in_err-write : goal.returns-in_err-write
-returns-in_err-write g c =
+pub returns-in_err-write_column-2 : goal.returns-in_err-write_column-2
+returns-in_err-write_column-2 g c =
     then c.in_ok-write_decimal.ensures.writes
     (then c.in_ok-write_column.ensures
-    (stop _ c.in_err-write.ensures.writes c.from_residual-in_err-write.ensures.0))
-
-pub returns-in_err-write_hundredfold : goal.returns-in_err-write_hundredfold
-returns-in_err-write_hundredfold g c =
-    then c.in_ok-write_decimal.ensures.writes
-    (then c.in_ok-write_column.ensures
-    (then c.in_ok-write.ensures.writes
-    (stop _ (as_text (ap decimal c.percent_of.ensures.is) c.in_err-write_hundredfold.ensures) c.from_residual-in_err-write_hundredfold.ensures.0)))
+    (stop _ (as_text (ap (λ n. 32 ∷ decimal n) c.percent_of.ensures) c.in_err-write_column-2.ensures) c.from_residual-in_err-write_column-2.ensures.0))
 
 pub returns : goal.returns
 returns g c =
     then c.in_ok-write_decimal.ensures.writes
     (then c.in_ok-write_column.ensures
-    (then c.in_ok-write.ensures.writes
-    (then (as_text (ap decimal c.percent_of.ensures.is) c.in_ok-write_hundredfold.ensures) c.write-2.ensures.writes)))
+    (then (as_text (ap (λ n. 32 ∷ decimal n) c.percent_of.ensures) c.in_ok-write_column-2.ensures) c.write.ensures.writes))

@@ -1,10 +1,12 @@
 -- The texts of a file within the limits are short, and their digests and the paths are those of the definition.
-use Rattle.std.proofs.Common.{take, refl, arith}
+use Rattle.std.proofs.Common.{refl, arith}
+use Rattle.aterm.specs.Tables.{rows_of}
 use Rattle.canonical.specs.Files.{values, derivation_value}
 use Rattle.canonical.specs.Meanings.{canonical}
 use Rattle.hash_modulo.specs.Hashes.{with_inputs}
 use Rattle.hash_modulo.specs.Paths.{masked}
 use Rattle.right_paths.specs.Inputs.{hash_input_value}
+use Rattle.right_paths.specs.Views.{file_by}
 use Rattle.right_paths.proofs.Aligning.{hash_short, masked_short}
 use Rattle.right_paths.proofs.Workings.{text_rest}
 use Rattle.right_paths.proofs.file.SortedFile.hash_text.Goals as goal
@@ -42,7 +44,7 @@ overflow_add-result-3 g c =
     let t = s.text.now in
     let r = c.hash_inputs-rows.ensures t w.given w.aligned in
     let v = c.hash_inputs-rows.result in
-    let text = canonical (with_inputs (masked (derivation_value t s.file.now)) (values (hash_input_value t) (take v.len v.items))) in
+    let text = canonical (with_inputs (masked (derivation_value t s.file.now)) (values (hash_input_value t) (rows_of v))) in
     omega (arith, hash_short w r, masked_short w r, c.pour-whole.ensures.count, c.pour-masked.ensures.count, (c.output_paths-outputs.ensures text c.pour-masked.ensures.hash).few, c.requires.few)
 
 pub returns : goal.returns
@@ -50,7 +52,7 @@ returns g c h aligned =
     let s = c.args.self.now in
     let t = s.text.now in
     let v = c.hash_inputs-rows.result in
-    let m = derivation_value t s.file.now in
-    let rows = values (hash_input_value t) (take v.len v.items) in
+    let m = file_by s in
+    let rows = values (hash_input_value t) (rows_of v) in
     let o = c.output_paths-outputs.ensures (canonical (with_inputs (masked m) rows)) c.pour-masked.ensures.hash in
-    (rows, c.hash_inputs-rows.ensures t h aligned, text_rest c.pour-whole.ensures c.pour-masked.ensures o refl refl refl refl)
+    (rows, c.hash_inputs-rows.ensures t h aligned, text_rest {m = m} c.pour-whole.ensures c.pour-masked.ensures o refl refl refl refl)

@@ -1,5 +1,5 @@
 -- Turn by turn one more output's path is worked out, of a string that is short.
-use Rattle.std.proofs.Common.{◌≡◌, ℕ, List, length, get_or, sym, ap, subst, arith}
+use Rattle.std.proofs.Common.{◌≡◌, ℕ, ◌<◌, ◌++◌, List, length, get_or, codes, sym, ap, subst, arith}
 use Rattle.std.proofs.lemmas.List.{get_or-map, length-map, length-take}
 use Rattle.aterm.specs.declared.file.Output.{Output}
 use Rattle.aterm.specs.declared.part.Span.{Span}
@@ -7,10 +7,15 @@ use Rattle.aterm.specs.declared.rows.Placed.{Placed}
 use Rattle.canonical.specs.Files.{values, output_value}
 use Rattle.canonical.specs.Kinds.{Value}
 use Rattle.canonical.specs.Meanings.{an_output}
+use Rattle.derivation.specs.Questions.{output_name}
+use Rattle.hash_modulo.specs.Paths.{path_string}
 use Rattle.hash_modulo.specs.Sets.{Bytes}
 use Rattle.hash_modulo.specs.Strings.{no_output}
+use Rattle.sink.specs.Numerals.{hex}
 use Rattle.sink.specs.Write.{Step, Meaning}
-use Rattle.right_paths.specs.Worked.{OutputsWorked}
+use Rattle.right_paths.specs.Views.{output_by}
+use Rattle.right_paths.specs.Worked.{LocatedBy, OutputsWorked}
+use Rattle.right_paths.specs.declared.file_output.FileOutput.{FileOutput}
 use Rattle.right_paths.specs.declared.hashes.Digits.{Digits}
 use Rattle.right_paths.proofs.Rounds.{short_at, upto_more, upto_all}
 use Rattle.right_paths.proofs.file.SortedFile.output_paths.Goals as goal
@@ -32,11 +37,16 @@ of_rows : {f : Step} {start : List ℕ} {capacity : ℕ} {answer : List ℕ → 
 of_rows {f} {start} {capacity} {answer} {path} {text} {xs} {ys} {before} {after} {digits} {n} t e w =
     subst (λ (z : List (Placed Output)). OutputsWorked f start capacity answer path text (values (output_value t) z) before digits n after) e w
 
+-- the string of an output's path
+abbrev string : Bytes → FileOutput → Bytes
+string h o = path_string (codes "output:" ++ (output_by o).0) (hex h) (output_name o.path.now (output_by o).0)
+
 pub path_by-located-requires : goal.path_by-located-requires
 path_by-located-requires g c =
     let t = c.args.self.now.text.now in
     let w : length c.args.masked ≡ 32 = omega arith in
-    short_at (value_in t) c.as_slice-rows.result.now c.loop-i.i no_row c.args.masked (sym (ap (values (output_value t)) c.as_slice-rows.ensures)) c.requires w c.loop-i-test.true
+    subst (λ (o : FileOutput). length (string c.args.masked o) < 1048576) (sym c.output.ensures)
+    (short_at (value_in t) c.as_slice-rows.result.now c.loop-i.i no_row c.args.masked (sym (ap (values (output_value t)) c.as_slice-rows.ensures)) c.requires w c.loop-i-test.true)
 
 pub overflow_add-count : goal.overflow_add-count
 overflow_add-count g c =
@@ -44,7 +54,8 @@ overflow_add-count g c =
     let v = c.args.self.now.file.now.outputs in
     let w : length c.args.masked ≡ 32 = omega arith in
     let s = short_at (value_in t) c.as_slice-rows.result.now c.loop-i.i no_row c.args.masked (sym (ap (values (output_value t)) c.as_slice-rows.ensures)) c.requires w c.loop-i-test.true in
-    omega (arith, s, c.loop-i.invariant.few, c.path_by-located.ensures.pours.count, c.loop-i-test.true, ap length c.as_slice-rows.ensures, length-take v.len v.items, v.fits)
+    let z = ap (λ (o : FileOutput). length (string c.args.masked o)) c.output.ensures in
+    omega (arith, s, z, c.loop-i.invariant.few, c.path_by-located.ensures.pours.count, c.loop-i-test.true, ap length c.as_slice-rows.ensures, length-take v.len v.items, v.fits)
 
 pub loop-i-preserved : goal.loop-i-preserved
 loop-i-preserved g c =
@@ -53,11 +64,14 @@ loop-i-preserved g c =
     let xs = c.as_slice-rows.result.now in
     let i = c.loop-i.i in
     let w : length c.args.masked ≡ 32 = omega arith in
+    let s = g.S.Sink in
+    let d = g.S.DigestSink in
+    let located = subst (λ (o : FileOutput). LocatedBy s.step d.start d.capacity d.answered (s.held c.loop-i.sink).meaning (string c.args.masked o) c.path_by-located.result.value.bytes c.path_by-located.result.count (s.held c.path_by-located.new.sink).meaning) c.output.ensures c.path_by-located.ensures in
     upto_more c.path_by-located.result.value (value_in t (get_or xs i no_row)) c.loop-i.invariant
     (omega (arith, length-map xs (value_in t), c.loop-i-test.true))
     (omega (arith, c.loop-i-test.true, ap length c.as_slice-rows.ensures, length-take v.len v.items, v.fits))
     (sym (get_or-map (value_in t) xs i no_row no_output c.loop-i-test.true))
-    c.path_by-located.ensures
+    located
     (short_at (value_in t) xs i no_row c.args.masked (sym (ap (values (output_value t)) c.as_slice-rows.ensures)) c.requires w c.loop-i-test.true)
 
 pub returns : goal.returns

@@ -1,24 +1,20 @@
-use Rattle.std.proofs.Common.{[], ◌∷◌, ◌++◌}
 use Rattle.sink.proofs.Writing.{then, stop}
-use Rattle.canonical.specs.Files.{said_in}
 use Rattle.right_paths.proofs.fixed_strings.InnerStringToSink.write_to.Goals as goal
 
 pub returns-in_err-write_to : goal.returns-in_err-write_to
 returns-in_err-write_to g c =
-    let s = c.args.self.now in
     then c.in_ok-write.ensures.writes
-    (stop (58 ∷ (said_in s.text.now s.output.hash ++ (58 ∷ []))) c.in_err-write_to.ensures c.from_residual-in_err-write_to.ensures.0)
+    (stop _ c.in_err-write_to.ensures c.from_residual-in_err-write_to.ensures.0)
 
 pub returns-in_err-write-2 : goal.returns-in_err-write-2
 returns-in_err-write-2 g c =
-    let s = c.args.self.now in
     then c.in_ok-write.ensures.writes (then c.in_ok-write_to.ensures
-    (stop (said_in s.text.now s.output.hash ++ (58 ∷ [])) c.in_err-write-2.ensures.writes c.from_residual-in_err-write-2.ensures.0))
+    (stop _ c.in_err-write-2.ensures.writes c.from_residual-in_err-write-2.ensures.0))
 
 pub returns-in_err-write_to-2 : goal.returns-in_err-write_to-2
 returns-in_err-write_to-2 g c =
     then c.in_ok-write.ensures.writes (then c.in_ok-write_to.ensures (then c.in_ok-write-2.ensures.writes
-    (stop (58 ∷ []) c.in_err-write_to-2.ensures c.from_residual-in_err-write_to-2.ensures.0)))
+    (stop _ c.in_err-write_to-2.ensures c.from_residual-in_err-write_to-2.ensures.0)))
 
 pub returns : goal.returns
 returns g c =

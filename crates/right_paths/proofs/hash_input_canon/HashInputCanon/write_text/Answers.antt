@@ -1,4 +1,4 @@
-use Rattle.std.proofs.Common.{◌≡◌, ℕ, List, [], ◌∷◌, ◌++◌, ap}
+use Rattle.std.proofs.Common.{◌≡◌, ℕ, List, ◌∷◌, ◌++◌, ap}
 use Rattle.canonical.specs.Kinds.{text, rising, one, canon, canons}
 use Rattle.canonical.specs.Meanings.{an_input}
 use Rattle.sink.proofs.Writing.{as_text, then, stop}
@@ -19,14 +19,14 @@ pub returns-in_err-write_hex : goal.returns-in_err-write_hex
 returns-in_err-write_hex g c =
     as_text (pieces c.args.text.now c.args.self.now)
     (then c.in_ok-write.ensures.writes
-    (stop (34 ∷ rest c.args.text.now c.args.self.now) c.in_err-write_hex.ensures.writes c.from_residual-in_err-write_hex.ensures.0))
+    (stop _ c.in_err-write_hex.ensures.writes c.from_residual-in_err-write_hex.ensures.0))
 
 pub returns-in_err-write-2 : goal.returns-in_err-write-2
 returns-in_err-write-2 g c =
     as_text (pieces c.args.text.now c.args.self.now)
     (then c.in_ok-write.ensures.writes
     (then c.in_ok-write_hex.ensures.writes
-    (stop (rest c.args.text.now c.args.self.now) c.in_err-write-2.ensures.writes c.from_residual-in_err-write-2.ensures.0)))
+    (stop _ c.in_err-write-2.ensures.writes c.from_residual-in_err-write-2.ensures.0)))
 
 pub returns-in_err-write_after : goal.returns-in_err-write_after
 returns-in_err-write_after g c =
@@ -34,7 +34,7 @@ returns-in_err-write_after g c =
     (then c.in_ok-write.ensures.writes
     (then c.in_ok-write_hex.ensures.writes
     (then c.in_ok-write-2.ensures.writes
-    (stop (41 ∷ []) c.in_err-write_after.ensures c.from_residual-in_err-write_after.ensures.0))))
+    (stop _ c.in_err-write_after.ensures c.from_residual-in_err-write_after.ensures.0))))
 
 pub returns : goal.returns
 returns g c =

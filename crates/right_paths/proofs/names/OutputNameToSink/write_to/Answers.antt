@@ -9,12 +9,12 @@ pub returns-in_err-write-2 : goal.returns-in_err-write-2
 returns-in_err-write-2 g c =
     let s = c.args.self.now in
     let out = said_by s.out in
-    as_text (ap (λ (v : List ℕ). v ++ (45 ∷ out)) c.stem-2.ensures ∙ name_other s.path.now out (not_from_Decides false c.if-says.ensures refl))
-    (then c.in_ok-write.ensures.writes (stop out c.in_err-write-2.ensures.writes c.from_residual-in_err-write-2.ensures.0))
+    as_text (ap (λ (v : List ℕ). v ++ (45 ∷ out)) c.stem.ensures ∙ name_other s.path.now out (not_from_Decides false c.if-says.ensures refl))
+    (then c.in_ok-write.ensures.writes (stop _ c.in_err-write-2.ensures.writes c.from_residual-in_err-write-2.ensures.0))
 
 pub returns : goal.returns
 returns g c =
     let s = c.args.self.now in
     let out = said_by s.out in
-    as_text (ap (λ (v : List ℕ). v ++ (45 ∷ out)) c.stem-2.ensures ∙ name_other s.path.now out (not_from_Decides false c.if-says.ensures refl))
+    as_text (ap (λ (v : List ℕ). v ++ (45 ∷ out)) c.stem.ensures ∙ name_other s.path.now out (not_from_Decides false c.if-says.ensures refl))
     (then c.in_ok-write.ensures.writes (then c.in_ok-write-2.ensures.writes c.write_to.ensures))

@@ -1,27 +1,23 @@
-use Rattle.std.proofs.Common.{◌++◌, codes}
 use Rattle.sink.proofs.Writing.{then, stop}
 use Rattle.right_paths.proofs.path_string.PathStringToSink.write_to.Goals as goal
 
 pub returns-in_err-write : goal.returns-in_err-write
 returns-in_err-write g c =
-    let s = c.args.self.now in
     then c.in_ok-write_to.ensures
-    (stop (g.H.ToSink.bytes s.hash ++ (codes ":/nix/store:" ++ g.N.ToSink.bytes s.name)) c.in_err-write.ensures.writes c.from_residual-in_err-write.ensures.0)
+    (stop _ c.in_err-write.ensures.writes c.from_residual-in_err-write.ensures.0)
 
 pub returns-in_err-write_to-2 : goal.returns-in_err-write_to-2
 returns-in_err-write_to-2 g c =
-    let s = c.args.self.now in
     then c.in_ok-write_to.ensures
     (then c.in_ok-write.ensures.writes
-    (stop (codes ":/nix/store:" ++ g.N.ToSink.bytes s.name) c.in_err-write_to-2.ensures c.from_residual-in_err-write_to-2.ensures.0))
+    (stop _ c.in_err-write_to-2.ensures c.from_residual-in_err-write_to-2.ensures.0))
 
 pub returns-in_err-write-2 : goal.returns-in_err-write-2
 returns-in_err-write-2 g c =
-    let s = c.args.self.now in
     then c.in_ok-write_to.ensures
     (then c.in_ok-write.ensures.writes
     (then c.in_ok-write_to-2.ensures
-    (stop (g.N.ToSink.bytes s.name) c.in_err-write-2.ensures.writes c.from_residual-in_err-write-2.ensures.0)))
+    (stop _ c.in_err-write-2.ensures.writes c.from_residual-in_err-write-2.ensures.0)))
 
 pub returns : goal.returns
 returns g c =

@@ -1,5 +1,0 @@
-use Rattle.sink.proofs.Writing.{then}
-use Rattle.canonical.proofs.row.write_after.Goals as goal
-
-pub returns : goal.returns
-returns g c = then c.in_ok-write.ensures.writes c.write_text.ensures

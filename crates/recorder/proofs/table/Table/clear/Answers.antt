@@ -1,7 +1,0 @@
-use Rattle.std.proofs.Common.{refl}
-use Rattle.recorder.specs.Record.{zeros}
-use Rattle.recorder.proofs.table.Table.clear.Goals as goal
-
-pub returns : goal.returns
-unfolding zeros
-returns c = (refl, refl)
