@@ -3,11 +3,8 @@ use Rattle.std.proofs.Common.{◌≡◌, ℕ, ◌≤◌, List, [], ◌∷◌, �
 use Rattle.aterm.specs.declared.fault.Cause.{Cause}
 use Rattle.aterm.specs.Grammar.{Sign, byte, signs, Shape, Fields, field, Tree, Trees, opener, write, writes}
 use Rattle.aterm.specs.Reads.{Stops, Written, past, written_field}
-use Rattle.aterm.proofs.Laws.{Free, Starts, After, stop_start, stop_after, reach}
+use Rattle.aterm.proofs.Laws.{tail_eq, Free, Starts, After, stop_start, stop_after, reach}
 use Rattle.aterm.proofs.Free.{free_write, some_trees}
-
-tail_eq : {a b : Sign} {r s : List Sign} → a ∷ r ≡ b ∷ s → r ≡ s
-tail_eq e = cc
 
 module _ (s : Shape) (fs : Fields) where
   joined : (x : Tree s) (q : List Sign) → written_field s 44 x ++ q ≡ byte (opener s) ∷ (write s x ++ byte 44 ∷ q)

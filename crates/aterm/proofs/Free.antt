@@ -1,10 +1,7 @@
 -- No writing goes on past another.
 use Rattle.std.proofs.Common.{◌≡◌, ℕ, zero, suc, pred, T, List, [], ◌∷◌, sym, ◌∙◌, subst, append_assoc, arith}
 use Rattle.aterm.specs.Grammar.{Sign, byte, plain, escaped, ordinary, Shape, string, row, list, Fields, last, field, Tree, Trees, opener, begin, more, rows, write, writes}
-use Rattle.aterm.proofs.Laws.{Free}
-
-tail_eq : {a b : Sign} {r s : List Sign} → a ∷ r ≡ b ∷ s → r ≡ s
-tail_eq e = cc
+use Rattle.aterm.proofs.Laws.{tail_eq, Free}
 
 pub head_byte : {a b : ℕ} {r s : List Sign} → byte a ∷ r ≡ byte b ∷ s → a ≡ b
 head_byte e = cc
@@ -35,7 +32,7 @@ module _ {X : Type 0} (w : X → List Sign) (free : Free w) (o : ℕ) where
       free_more (pred n) xs ys r s (free x y _ _ (sym (append_assoc (w x) _ r) ∙ tail_eq (tail_eq e) ∙ append_assoc (w y) _ s))
 
   pub not_close : (n : ℕ) (r s : List Sign) → (o ≡ 93 → ⊥) → byte 93 ∷ r ≡ begin n o ∷ s → ⊥
-  not_close zero r s ne e = let z : ◌≡◌ {A = ℕ} 0 1 = cc in omega arith
+  not_close zero r s ne e = cc
   not_close (suc n) r s ne e = ne (sym (head_byte e))
 
   pub free_rows : (o ≡ 93 → ⊥) → (n : ℕ) → Free (rows o w n)

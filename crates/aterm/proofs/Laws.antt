@@ -9,15 +9,15 @@ use Rattle.aterm.specs.Reads.{Allowed, Because, Stops, beyond}
 abbrev pub Free : {X : Type 0} → (X → List Sign) → Type 0
 Free {X} w = (x y : X) (r s : List Sign) → w x ++ r ≡ w y ++ s → r ≡ s
 
-tail_eq : {a b : Sign} {r s : List Sign} → a ∷ r ≡ b ∷ s → r ≡ s
+pub tail_eq : {a b : Sign} {r s : List Sign} → a ∷ r ≡ b ∷ s → r ≡ s
 tail_eq e = cc
 
 head_eq : {a b : Sign} {r s : List Sign} → a ∷ r ≡ b ∷ s → a ≡ b
 head_eq e = cc
 
 pub not_nil : (c : Sign) (p q : List Sign) → p ++ c ∷ q ≡ [] → ⊥
-not_nil c [] q e = let z : ◌≡◌ {A = ℕ} 0 1 = cc in omega arith
-not_nil c (a ∷ p) q e = let z : ◌≡◌ {A = ℕ} 0 1 = cc in omega arith
+not_nil c [] q e = cc
+not_nil c (a ∷ p) q e = cc
 
 -- c lies in a, or after it
 pub apart : (p a : List Sign) (c : Sign) (q b : List Sign) → a ++ b ≡ p ++ c ∷ q →

@@ -5,10 +5,10 @@ use Rattle.aterm.specs.declared.fault.Cause.{Cause}
 use Rattle.aterm.specs.declared.fault.Cause.TheVariants.{Byte, Row}
 use Rattle.aterm.specs.declared.fault.Fault.{Fault}
 use Rattle.aterm.specs.declared.rows.Placed.{Placed}
-use Rattle.aterm.specs.Grammar.{Sign, byte, over, end, signs, Shape, list, Tree, opener, write, begin, more, rows}
+use Rattle.aterm.specs.Grammar.{Sign, byte, over, end, signs, Shape, list, Tree, opener, write, more, rows}
 use Rattle.aterm.specs.Reads.{Allowed, Because, Stops, Written, Answers, Next, Each, past, beyond, written_row}
-use Rattle.aterm.proofs.Laws.{Free, Starts, After, stop_start, stop_after, sign_at, sign_end, reach}
-use Rattle.aterm.proofs.Free.{free_write, some_tree, opener_close}
+use Rattle.aterm.proofs.Laws.{tail_eq, Free, Starts, After, stop_start, stop_after, sign_at, sign_end, reach}
+use Rattle.aterm.proofs.Free.{free_write, some_tree, opener_close, not_close}
 use Rattle.aterm.proofs.Parts.{stop_next, step_next}
 
 -- the row after k rows begins here: the first at once, and another after a comma
@@ -19,10 +19,12 @@ pub begins_from : (t : List ℕ) (k to begun : ℕ) → Begins t k to begun → 
 begins_from t k to begun (inl (e, r)) = omega arith
 begins_from t k to begun (inr (e, r)) = omega (arith, r.0)
 
-tail_eq : {a b : Sign} {r s : List Sign} → a ∷ r ≡ b ∷ s → r ≡ s
-tail_eq e = cc
-
 module _ (s : Shape) where
+  -- where the row after these would begin
+  abbrev pub ends : ℕ → List (Tree s) → ℕ
+  ends at [] = at
+  ends at (x ∷ xs) = ends (past s at x) xs
+
   after_begin : (m : ℕ) → 0 < m → After (written_row s m) (byte (opener s) ∷ []) (write s)
   after_begin zero h = absurd (omega arith)
   after_begin (suc m) h = record { up = λ y. (y, refl); down = λ x q e. (x, tail_eq e) }
@@ -46,7 +48,7 @@ module _ (s : Shape) where
       whole = step inside n;
       at = omega arith;
       viable = (over (opener s), (some_tree s, write s (some_tree s), refl));
-      stops = λ a. let e = a.2 in let z : ◌≡◌ {A = ℕ} 0 1 = cc in omega arith;
+      stops = λ a. let e = a.2 in cc;
       because = (some_tree s, write s (some_tree s), refl);
     }
 
@@ -83,10 +85,6 @@ module _ (s : Shape) (n : ℕ) where
   starts_run : (m : ℕ) → Starts (written_row s m) (run m)
   starts_run m = record { down = λ z. (z.0, rest (pred m) z.1, refl); up = λ x. ((x, []), rest (pred m) [], refl) }
 
-  not_close : (m : ℕ) (r q : List Sign) → byte 93 ∷ r ≡ begin m (opener s) ∷ q → ⊥
-  not_close zero r q e = let z : ◌≡◌ {A = ℕ} 0 1 = cc in omega arith
-  not_close (suc m) r q e = opener_close s cc
-
   -- a list that does not close at once begins with a row
   allow_all : (p : List Sign) (c : Sign) → Allowed (run n) p c → Allowed all p c
   allow_all p c a = (a.0.0 ∷ a.0.1, a.1, a.2)
@@ -108,9 +106,9 @@ module _ (s : Shape) (n : ℕ) where
   no_close l (d ∷ p) c r o e q f = o (p ++ c ∷ r) (e ∙ ap (λ d. d ∷ p ++ c ∷ r) (sym (let g : byte 93 ≡ d = cc in g)))
 
   never_beyond : (c : Sign) → byte 93 ≡ beyond c → ⊥
-  never_beyond (byte b) e = let z : ◌≡◌ {A = ℕ} 0 1 = cc in omega arith
-  never_beyond (over b) e = let z : ◌≡◌ {A = ℕ} 0 1 = cc in omega arith
-  never_beyond end e = let z : ◌≡◌ {A = ℕ} 0 1 = cc in omega arith
+  never_beyond (byte b) e = cc
+  never_beyond (over b) e = cc
+  never_beyond end e = cc
 
   no_close_beyond : (l p : List Sign) (c : Sign) (r : List Sign) → Open l → l ≡ p ++ c ∷ r → (q : List Sign) → byte 93 ∷ [] ≡ p ++ beyond c ∷ q → ⊥
   no_close_beyond l [] c r o e q f = never_beyond c (let g : byte 93 ≡ beyond c = cc in g)
@@ -132,7 +130,7 @@ module _ (s : Shape) (n : ℕ) where
   not_here b t at h f e r q =
       ⊎_elim
       (λ k. e.2 k (let g = sign_at t at k in cc))
-      (λ k. let i : at ≡ length t = omega arith in let g = ap (λ j. drop j (signs t)) i ∙ sign_end t in let z : ◌≡◌ {A = ℕ} 0 1 = cc in omega arith)
+      (λ k. let i : at ≡ length t = omega arith in let g = ap (λ j. drop j (signs t)) i ∙ sign_end t in cc)
       (order at (length t))
 
   after_comma : (m : ℕ) → After (rest m) (byte 44 ∷ []) (run m)
@@ -141,9 +139,6 @@ module _ (s : Shape) (n : ℕ) where
       down : (zs : List (Tree s)) (q : List Sign) → rest m zs ≡ byte 44 ∷ q → (z : Tree s × List (Tree s)) × (run m z ≡ q)
       down [] q e = absurd (let z : ◌≡◌ {A = ℕ} 93 44 = cc in omega arith)
       down (z ∷ zs) q e = ((z, zs), tail_eq e)
-
-  after_row : (m : ℕ) (x : Tree s) → After (run m) (written_row s m x) (rest (pred m))
-  after_row m x = record { up = λ zs. ((x, zs), refl); down = λ z q e. (z.1, free_row m z.0 x (rest (pred m) z.1) q e) }
 
   -- neither a bracket nor a comma
   stop_rest : (m : ℕ) (t : List ℕ) (at : ℕ) → at ≤ length t → (f g : Fault) → Next 93 t at (Err f) → Next 44 t at (Err g) → Stops (rest m) (drop at (signs t)) at g.place g.cause
@@ -167,20 +162,15 @@ module _ (s : Shape) (n : ℕ) where
       here = ⊎_elim (λ k. (byte (get_or t at 0), drop (at + 1) (signs t), sign_at t at k)) (λ k. let i : at ≡ length t = omega arith in (end, [], ap (λ j. drop j (signs t)) i ∙ sign_end t)) (order at (length t))
 
       never_byte : (c : Sign) (b : ℕ) → beyond c ≡ byte b → ⊥
-      never_byte (byte d) b e = let z : ◌≡◌ {A = ℕ} 0 1 = cc in omega arith
-      never_byte (over d) b e = let z : ◌≡◌ {A = ℕ} 0 1 = cc in omega arith
-      never_byte end b e = let z : ◌≡◌ {A = ℕ} 0 1 = cc in omega arith
+      never_byte (byte d) b e = cc
+      never_byte (over d) b e = cc
+      never_byte end b e = cc
 
       neither : (zs : List (Tree s)) (q : List Sign) (c : Sign) → (c ≡ byte 93 → ⊥) → (c ≡ byte 44 → ⊥) → rest m zs ≡ c ∷ q → ⊥
       neither [] q c a b e = a cc
       neither (z ∷ zs) q c a b e = b cc
 
-  -- where the row after these would begin
-  abbrev pub ends : ℕ → List (Tree s) → ℕ
-  ends at [] = at
-  ends at (x ∷ xs) = ends (past s at x) xs
-
-  ends_more : (at : ℕ) (xs : List (Tree s)) (x : Tree s) → ends at (xs ++ x ∷ []) ≡ past s (ends at xs) x
+  ends_more : (at : ℕ) (xs : List (Tree s)) (x : Tree s) → ends s at (xs ++ x ∷ []) ≡ past s (ends s at xs) x
   ends_more at [] x = refl
   ends_more at (y ∷ xs) x = ends_more (past s at y) xs x
 
@@ -195,7 +185,7 @@ module _ (s : Shape) (n : ℕ) where
     pub inside : to ≤ length t
     pub up : (ys : List (Tree s)) → all (trees ++ ys) ≡ pre ++ rest (n - k) ys
     pub down : (zs : List (Tree s)) (q : List Sign) → all zs ≡ pre ++ q → (ys : List (Tree s)) × (rest (n - k) ys ≡ q)
-    pub stands : to + 1 ≡ ends at trees
+    pub stands : to + 1 ≡ ends s at trees
     pub held : Each s H at vs trees
 
   module _ {V : Type 0} (H : ℕ → V → Tree s → Type 0) (t : List ℕ) (at : ℕ) (h : at ≤ length t) where
@@ -223,7 +213,7 @@ module _ (s : Shape) (n : ℕ) where
     }
       where
         down : (zs : List (Tree s)) (q : List Sign) → all zs ≡ written_row s n w.tree ++ q → (ys : List (Tree s)) × (rest (n - 1) ys ≡ q)
-        down [] q f = absurd (not_close n _ _ f)
+        down [] q f = absurd (not_close (write s) (free_write s) (opener s) n _ _ (opener_close s) f)
         down (z ∷ zs) q f = (zs, ap (λ m. rest m zs) (sub-one n) ∙ free_row n z w.tree _ _ f)
 
   module _ {V : Type 0} {H : ℕ → V → Tree s → Type 0} {t : List ℕ} {at : ℕ} (h : at ≤ length t) {vs : List (Placed V)} {k to : ℕ} (li : Listed H t at vs k to) where
@@ -263,7 +253,7 @@ module _ (s : Shape) (n : ℕ) where
         held = subst (λ l. Each s H at l (li.trees ++ w.tree ∷ [])) (sym e) (each_more at vs li.trees (record { place = begun; value = v }) w.tree li.held here (subst (λ p. H (p + 1) v w.tree) here w.held));
       }
         where
-          here : begun ≡ ends at li.trees
+          here : begun ≡ ends s at li.trees
           here = m.0 ∙ li.stands
 
           less : pred (n - k) ≡ n - (k + 1)
@@ -273,7 +263,7 @@ module _ (s : Shape) (n : ℕ) where
           on [] q f = absurd (let z : ◌≡◌ {A = ℕ} 93 44 = cc in omega arith)
           on (y ∷ ys) q f = (ys, ap (λ i. rest i ys) (sym less) ∙ free_row (n - k) y w.tree _ _ (tail_eq f))
 
-          each_more : (p : ℕ) (us : List (Placed V)) (xs : List (Tree s)) (u : Placed V) (x : Tree s) → Each s H p us xs → u.place ≡ ends p xs → H (ends p xs + 1) u.value x → Each s H p (us ++ u ∷ []) (xs ++ x ∷ [])
+          each_more : (p : ℕ) (us : List (Placed V)) (xs : List (Tree s)) (u : Placed V) (x : Tree s) → Each s H p us xs → u.place ≡ ends s p xs → H (ends s p xs + 1) u.value x → Each s H p (us ++ u ∷ []) (xs ++ x ∷ [])
           each_more p [] [] u x a q b = ((q, b), tt)
           each_more p [] (y ∷ xs) u x a q b = absurd a
           each_more p (v ∷ us) [] u x a q b = absurd a

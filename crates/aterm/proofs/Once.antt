@@ -2,14 +2,11 @@
 use Rattle.std.proofs.Common.{◌≡◌, ℕ, pred, T, List, [], ◌∷◌, ◌++◌, sym, refl, ap, ◌∙◌, subst, append_assoc, arith}
 use lib.Dec.{T_prop}
 use Rattle.aterm.specs.Grammar.{Sign, byte, plain, escaped, ordinary, Shape, string, row, list, Fields, last, field, opener, more, rows, write, writes}
-use Rattle.aterm.proofs.Laws.{Free}
+use Rattle.aterm.proofs.Laws.{tail_eq, Free}
 use Rattle.aterm.proofs.Free.{free_write, opener_close, head_byte, not_quote, not_slash, not_close}
 
 abbrev Once : {X : Type 0} → (X → List Sign) → Type 0
 Once {X} w = (x y : X) (r s : List Sign) → w x ++ r ≡ w y ++ s → x ≡ y
-
-tail_eq : {a b : Sign} {r s : List Sign} → a ∷ r ≡ b ∷ s → r ≡ s
-tail_eq e = cc
 
 same_plain : (c d : ℕ) (o : T (ordinary c)) (u : T (ordinary d)) → c ≡ d → plain c o ≡ plain d u
 same_plain c d o u e =

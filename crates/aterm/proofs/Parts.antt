@@ -5,24 +5,21 @@ use Rattle.aterm.specs.declared.fault.Cause.TheVariants.{Byte}
 use Rattle.aterm.specs.declared.fault.Fault.{Fault}
 use Rattle.aterm.specs.Grammar.{Sign, byte, over, end, signs, Shape, Tree, opener, write, begin}
 use Rattle.aterm.specs.Reads.{Stops, Written, Next, written_field}
-use Rattle.aterm.proofs.Laws.{Starts, After, stop_start, stop_after, stop_first, sign_at, sign_end, reach}
+use Rattle.aterm.proofs.Laws.{tail_eq, Starts, After, stop_start, stop_after, stop_first, sign_at, sign_end, reach}
 use Rattle.aterm.proofs.Free.{free_write, some_tree}
-
-tail_eq : {a b : Sign} {r s : List Sign} → a ∷ r ≡ b ∷ s → r ≡ s
-tail_eq e = cc
 
 -- b, which is not here, does not begin a row here, be it beyond the limit or not
 apart_byte : (m b c : ℕ) → (c ≡ b → ⊥) → byte c ≡ begin m b → ⊥
-apart_byte zero b c ne e = let z : ◌≡◌ {A = ℕ} 0 1 = cc in omega arith
+apart_byte zero b c ne e = cc
 apart_byte (suc m) b c ne e = ne cc
 
 apart_over : (m b c : ℕ) → (c ≡ b → ⊥) → over c ≡ begin m b → ⊥
 apart_over zero b c ne e = ne cc
-apart_over (suc m) b c ne e = let z : ◌≡◌ {A = ℕ} 0 1 = cc in omega arith
+apart_over (suc m) b c ne e = cc
 
 apart_end : (m b : ℕ) → end ≡ begin m b → ⊥
-apart_end zero b e = let z : ◌≡◌ {A = ℕ} 0 1 = cc in omega arith
-apart_end (suc m) b e = let z : ◌≡◌ {A = ℕ} 0 1 = cc in omega arith
+apart_end zero b e = cc
+apart_end (suc m) b e = cc
 
 pub stop_next : {Z : Type 0} (W : Z → List Sign) (m b : ℕ) → Z → ((z : Z) → (q : List Sign) × (W z ≡ begin m b ∷ q)) → (t : List ℕ) (at : ℕ) → at ≤ length t → (f : Fault) → Next b t at (Err f) → Stops W (drop at (signs t)) at f.place f.cause
 stop_next W m b z all t at h f n =

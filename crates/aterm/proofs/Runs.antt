@@ -1,5 +1,5 @@
 -- What `eq` says of two iterators, by the lists that they give.
-use Rattle.std.proofs.Common.{◌≡◌, ℕ, true, false, nat_eq, List, [], ◌∷◌, ◌++◌, Some, None, Option, Decides, Bool, sym, refl, ap, ◌∙◌, subst, arith}
+use Rattle.std.proofs.Common.{◌≡◌, ℕ, true, false, nat_eq, List, [], ◌∷◌, ◌++◌, Some, None, Option, Decides, Bool, sym, refl, ap, ◌∙◌, subst}
 use Rattle.std.proofs.lemmas.Bool.{eqb-true, eqb-false, true≢false}
 use Rattle.std.proofs.lemmas.List.{append_cancel_left}
 use Rattle.std.proofs.lemmas.Iterator.{YieldsList}
@@ -43,7 +43,7 @@ refuted : {P : Type 0} (r : Bool) → r ≡ false → (P → ⊥) → Decides r 
 refuted r e n = (λ t. absurd (true≢false (sym t ∙ e)), λ p. absurd (n p))
 
 longer : (zs : List ℕ) (y : ℕ) (rest : List ℕ) → zs ≡ zs ++ y ∷ rest → ⊥
-longer [] y rest e = let z : ◌≡◌ {A = ℕ} 0 1 = cc in omega arith
+longer [] y rest e = cc
 longer (z ∷ zs) y rest e = longer zs y rest (cc)
 
 head_is : (x y : ℕ) (xs ys : List ℕ) → x ∷ xs ≡ y ∷ ys → x ≡ y

@@ -1,5 +1,6 @@
 -- The turns of the string reader.
 use Rattle.std.proofs.Common.{◌≡◌, ℕ, zero, suc, ◌+◌, ◌-◌, ◌<◌, ◌≤◌, T, List, [], ◌∷◌, ◌++◌, map, length, get_or, take, drop, sym, refl, ap, ◌∙◌, append_assoc, append-nil, arith, length-drop, length-take, get_or-drop, take-suc, take_all, drop-drop, ne_eqb}
+use Rattle.std.proofs.lemmas.List.{map-append, length-map}
 use Rattle.aterm.specs.declared.fault.Cause.TheVariants.{Byte}
 use Rattle.aterm.specs.declared.part.Mode.{Mode}
 use Rattle.aterm.specs.declared.part.Mode.TheVariants.{Plain, Escaped}
@@ -62,10 +63,6 @@ module _ (t : List ℕ) (at e : ℕ) (h : at ≤ e) (k : e < length t) where
 pub ordinary_from : (c : ℕ) → (c ≡ 34 → ⊥) → (c ≡ 92 → ⊥) → T (ordinary c)
 ordinary_from c p q = rw (ne_eqb c 34 p, ne_eqb c 92 q) tt
 
-map-append : (a b : List ℕ) → map byte (a ++ b) ≡ map byte a ++ map byte b
-map-append [] b = refl
-map-append (x ∷ a) b = ap (λ l. byte x ∷ l) (map-append a b)
-
 signs_split : (t : List ℕ) (n : ℕ) → n ≤ length t → signs t ≡ map byte (take n t) ++ drop n (signs t)
 signs_split t zero h = refl
 signs_split [] (suc n) h = absurd (omega arith)
@@ -93,10 +90,10 @@ closed t at e h k b s =
     }
 
 no_end : (l : List ℕ) (p q : List Sign) → map byte l ++ byte 34 ∷ [] ≡ p ++ end ∷ q → ⊥
-no_end [] [] q e = let z : ◌≡◌ {A = ℕ} 0 1 = cc in omega arith
-no_end [] (a ∷ []) q e = let z : ◌≡◌ {A = ℕ} 0 1 = cc in omega arith
-no_end [] (a ∷ b ∷ p) q e = let z : ◌≡◌ {A = ℕ} 0 1 = cc in omega arith
-no_end (x ∷ l) [] q e = let z : ◌≡◌ {A = ℕ} 0 1 = cc in omega arith
+no_end [] [] q e = cc
+no_end [] (a ∷ []) q e = cc
+no_end [] (a ∷ b ∷ p) q e = cc
+no_end (x ∷ l) [] q e = cc
 no_end (x ∷ l) (a ∷ p) q e = no_end l p q cc
 
 goes_on : (cs : List Char) (m : Mode) → (c : Sign) × Allowed (write string) (map byte (raw cs ++ half m)) c
@@ -106,13 +103,9 @@ goes_on cs Escaped = (
   (
     cs ++ escaped 0 ∷ [],
     byte 34 ∷ [],
-    ap (λ l. map byte l ++ byte 34 ∷ []) (raw_append cs (escaped 0 ∷ []) ∙ sym (append_assoc (raw cs) (92 ∷ []) (0 ∷ []))) ∙ ap (λ l. l ++ byte 34 ∷ []) (map-append (raw cs ++ 92 ∷ []) (0 ∷ [])) ∙ append_assoc (map byte (raw cs ++ 92 ∷ [])) (byte 0 ∷ []) (byte 34 ∷ []),
+    ap (λ l. map byte l ++ byte 34 ∷ []) (raw_append cs (escaped 0 ∷ []) ∙ sym (append_assoc (raw cs) (92 ∷ []) (0 ∷ []))) ∙ ap (λ l. l ++ byte 34 ∷ []) (map-append byte (raw cs ++ 92 ∷ []) (0 ∷ [])) ∙ append_assoc (map byte (raw cs ++ 92 ∷ [])) (byte 0 ∷ []) (byte 34 ∷ []),
   ),
 )
-
-length_map_byte : (l : List ℕ) → length (map byte l) ≡ length l
-length_map_byte [] = refl
-length_map_byte (x ∷ l) = ap suc (length_map_byte l)
 
 pub open_end : (t : List ℕ) (at : ℕ) (m : Mode) → at ≤ length t → Sofar t at (length t) m → Stops (write string) (drop at (signs t)) at (length t) Byte
 open_end t at m h s = record {
@@ -120,7 +113,7 @@ open_end t at m h s = record {
   sign = end;
   after = [];
   whole = seg_signs t at (length t) h (omega arith) ∙ ap (λ l. map byte l ++ drop (length t) (signs t)) s.1 ∙ ap (λ l. map byte (raw s.0 ++ half m) ++ l) (sign_end t);
-  at = (let l1 = length_map_byte (raw s.0 ++ half m) in let l2 = ap length s.1 in let l3 = length-take (length t - at) (drop at t) in let l4 = length-drop at t in omega arith);
+  at = (let l1 = length-map (raw s.0 ++ half m) byte in let l2 = ap length s.1 in let l3 = length-take (length t - at) (drop at t) in let l4 = length-drop at t in omega arith);
   viable = goes_on s.0 m;
   stops = λ a. no_end (raw a.0) _ a.1 a.2;
   because = λ a. no_end (raw a.0) _ a.1 a.2;

@@ -1,5 +1,6 @@
 -- Every text is judged: a reader by recursion over the shapes, for all lists of numbers.
 use Rattle.std.proofs.Common.{◌≡◌, ℕ, zero, suc, ◌+◌, ◌-◌, ◌<◌, ◌≤◌, ◌⊎◌, List, [], ◌∷◌, ◌++◌, map, length, get_or, drop, Ok, Err, refl, ap, ◌∙◌, subst, inl, inr, ⊎_elim, arith, take_all}
+use Rattle.std.proofs.lemmas.Bool.{cases_eq}
 use Rattle.std.proofs.str.Laws.{order}
 use Rattle.aterm.specs.declared.fault.Cause.TheVariants.{Byte, Row}
 use Rattle.aterm.specs.declared.fault.Fault.{Fault}
@@ -17,9 +18,6 @@ use Rattle.aterm.proofs.Lists.{Listed, row_open, row_full, row_rest, empty_list,
 use Rattle.aterm.proofs.Fields.{field_stops, later_stops, both}
 use Rattle.aterm.proofs.Whole.{spelt, Passing, pass_stops, pass_more, word_stops, body_stops, end_stops, written_whole}
 
-equal_or_not : (a b : ℕ) → (a ≡ b) ⊎ (a ≡ b → ⊥)
-equal_or_not a b = ⊎_elim (λ k. inr (λ e. omega arith)) (λ k. ⊎_elim (λ j. inr (λ e. omega arith)) (λ j. inl (omega arith)) (order b a)) (order a b)
-
 abbrev Stopped : {X : Type 0} → (X → List Sign) → List ℕ → ℕ → Type 0
 Stopped W t at = (f : Fault) × Stops W (drop at (signs t)) at f.place f.cause
 
@@ -35,7 +33,7 @@ look : (b : ℕ) (t : List ℕ) (at : ℕ) → Seen b t at
 look b t at =
     let f : Fault = record { place = at; cause = Byte } in
     ⊎_elim
-    (λ k. ⊎_elim (λ e. inl (at + 1, (refl, k, e))) (λ e. inr (f, (refl, refl, λ j. e))) (equal_or_not (get_or t at 0) b))
+    (λ k. ⊎_elim (λ e. inl (at + 1, (refl, k, e))) (λ e. inr (f, (refl, refl, λ j. e))) (cases_eq (get_or t at 0) b))
     (λ k. inr (f, (refl, refl, λ j. absurd (omega arith))))
     (order at (length t))
 
@@ -58,8 +56,8 @@ module _ (t : List ℕ) (at : ℕ) where
       ⊎_elim
       (λ p. characters g (e + 1) Escaped (omega arith) (omega arith) (omega arith) (on_slash t at e h k p s))
       (λ p. characters g (e + 1) Plain (omega arith) (omega arith) (omega arith) (on_plain t at e h k (ordinary_from (get_or t e 0) q p) s))
-      (equal_or_not (get_or t e 0) 92))
-      (equal_or_not (get_or t e 0) 34))
+      (cases_eq (get_or t e 0) 92))
+      (cases_eq (get_or t e 0) 34))
       (λ k. at_end e Plain h (omega arith) s)
       (order e (length t))
   characters (suc g) e Escaped h i j s =

@@ -1,5 +1,6 @@
 -- A whole text: its word, its tree and its end; and that it has one fault at most.
 use Rattle.std.proofs.Common.{◌≡◌, ℕ, suc, ◌+◌, ◌<◌, ◌≤◌, List, [], ◌∷◌, ◌++◌, map, length, get_or, take, drop, Ok, Err, sym, refl, ap, ◌∙◌, subst, ⊎_elim, append_assoc, append-nil, add-one, arith, take-append-drop, drop-cons, take-suc}
+use Rattle.std.proofs.lemmas.List.{append_cancel_left, map-append}
 use Rattle.aterm.specs.declared.fault.Cause.{Cause}
 use Rattle.aterm.specs.declared.fault.Cause.TheVariants.{Byte, Row}
 use Rattle.aterm.specs.declared.fault.Fault.{Fault}
@@ -13,14 +14,6 @@ use Rattle.aterm.proofs.Laws.{Free, Starts, After, stop_start, stop_after, stop_
 use Rattle.aterm.proofs.Free.{free_write, some_tree}
 use Rattle.aterm.proofs.Parts.{stop_next, step_next}
 
-map-append : (a b : List ℕ) → map byte (a ++ b) ≡ map byte a ++ map byte b
-map-append [] b = refl
-map-append (x ∷ a) b = ap (λ l. byte x ∷ l) (map-append a b)
-
-cancel : (a r q : List Sign) → a ++ r ≡ a ++ q → r ≡ q
-cancel [] r q e = e
-cancel (x ∷ a) r q e = cancel a r q cc
-
 abbrev pub spelt : List ℕ → Unit {0} → List Sign
 spelt w u = map byte w
 
@@ -30,8 +23,8 @@ Passing w t i at = (at ≤ length t) × (signs t ≡ map byte (take i w) ++ drop
 
 after_part : (w : List ℕ) (i : ℕ) → After (spelt w) (map byte (take i w)) (spelt (drop i w))
 after_part w i =
-    let e : map byte w ≡ map byte (take i w) ++ map byte (drop i w) = ap (map byte) (sym (take-append-drop i w)) ∙ map-append (take i w) (drop i w) in
-    record { up = λ y. (tt, e); down = λ x q f. (tt, cancel (map byte (take i w)) (map byte (drop i w)) q (sym e ∙ f)) }
+    let e : map byte w ≡ map byte (take i w) ++ map byte (drop i w) = ap (map byte) (sym (take-append-drop i w)) ∙ map-append byte (take i w) (drop i w) in
+    record { up = λ y. (tt, e); down = λ x q f. (tt, append_cancel_left (map byte (take i w)) (map byte (drop i w)) q (sym e ∙ f)) }
 
 module _ (w t : List ℕ) (i at : ℕ) (inv : Passing w t i at) (h : i < length w) where
   pub pass_stops : (f : Fault) → Next (get_or w i 0) t at (Err f) → Stops (spelt w) (signs t) 0 f.place f.cause
@@ -44,7 +37,7 @@ module _ (w t : List ℕ) (i at : ℕ) (inv : Passing w t i at) (h : i < length 
       let b = get_or w i 0 in
       let one : take (i + 1) w ≡ take i w ++ b ∷ [] = rw add-one (take-suc w i 0 h) in (
         omega (arith, n.0, n.1),
-        inv.1 ∙ ap (λ l. map byte (take i w) ++ l) (step_next b t at next n) ∙ sym (append_assoc (map byte (take i w)) (byte b ∷ []) (drop next (signs t))) ∙ ap (λ l. l ++ drop next (signs t)) (sym (map-append (take i w) (b ∷ [])) ∙ ap (map byte) (sym one)),
+        inv.1 ∙ ap (λ l. map byte (take i w) ++ l) (step_next b t at next n) ∙ sym (append_assoc (map byte (take i w)) (byte b ∷ []) (drop next (signs t))) ∙ ap (λ l. l ++ drop next (signs t)) (sym (map-append byte (take i w) (b ∷ [])) ∙ ap (map byte) (sym one)),
       )
 
 -- the tree and the end
@@ -55,14 +48,14 @@ close : Unit {0} → List Sign
 close u = end ∷ []
 
 free_spelt : Free (spelt word)
-free_spelt x y r q e = cancel (map byte word) r q e
+free_spelt x y r q e = append_cancel_left (map byte word) r q e
 
 starts_whole : Starts (spelt word) whole
 starts_whole = record { down = λ z. (tt, write derivation z ++ end ∷ [], refl); up = λ x. (some_tree derivation, write derivation (some_tree derivation) ++ end ∷ [], refl) }
 
 after_word : After whole (map byte word) body
 unfolding body
-after_word = record { up = λ y. (y, refl); down = λ x q e. (x, cancel (map byte word) (write derivation x ++ end ∷ []) q e) }
+after_word = record { up = λ y. (y, refl); down = λ x q e. (x, append_cancel_left (map byte word) (write derivation x ++ end ∷ []) q e) }
 
 starts_body : Starts (write derivation) body
 unfolding body
@@ -85,7 +78,7 @@ module _ (t : List ℕ) (inside : ℕ) (h : inside ≤ length t) (p : signs t �
     end_stops k =
         stop_after after_word p (reach t (map byte word) 0 inside p (omega arith) h)
         (stop_after (after_body w.tree) w.whole (reach t (write derivation w.tree) inside to w.whole h w.inside)
-        (stop_first close end tt (λ z. ([], refl)) to (sign_at t to k) (λ e. let z : ◌≡◌ {A = ℕ} 0 1 = cc in omega arith) (λ e. let z : ◌≡◌ {A = ℕ} 0 1 = cc in omega arith)))
+        (stop_first close end tt (λ z. ([], refl)) to (sign_at t to k) (λ e. cc) (λ e. cc)))
 
     pub written_whole : length t ≤ to → signs t ≡ whole w.tree
     written_whole k =
@@ -98,7 +91,7 @@ reads t inside h p d to w k =
     record {
       tree = w.tree;
       written = e;
-      only = λ y f. once_write derivation y w.tree (end ∷ []) (end ∷ []) (cancel (map byte word) _ _ (sym f ∙ e));
+      only = λ y f. once_write derivation y w.tree (end ∷ []) (end ∷ []) (append_cancel_left (map byte word) _ _ (sym f ∙ e));
       within = within derivation w.tree (clear_left (write derivation w.tree) (end ∷ []) (clear_right (map byte word) (write derivation w.tree ++ end ∷ []) (subst Clear e (clear_signs t))));
       held = subst (λ q. in_derivation t q d w.tree) (sym (reach t (map byte word) 0 inside p (omega arith) h)) w.held;
     }

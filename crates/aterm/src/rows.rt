@@ -71,15 +71,12 @@ impl<T: Copy, const N: usize> Rows<T, N> {
         &self.items[..self.len]
     }
 
-    // The first `len` rows. Apart, since the borrow checker covers no function that uses an array of T after it was copied out.
-    fn cut(self, len: usize) -> Rows<T, N>
-        requires { len ≤ self.len }
-        ensures { result.len ≡ len }
+    // The same table without rows. Apart, since the borrow checker covers no function that uses an array of T after it was copied out.
+    fn emptied(mut self) -> Rows<T, N>
+        ensures { result.len ≡ 0 }
     {
-        Rows {
-            items: self.items,
-            len,
-        }
+        self.len = 0;
+        self
     }
 
     // Changes each row, which keeps its place. A loop: the array's own `map` asks that an iterator of its items fits in memory, which is not
@@ -89,7 +86,7 @@ impl<T: Copy, const N: usize> Rows<T, N> {
         ensures len { result.len ≡ self.len }
         ensures rows { AllZip (λ v w. (w.place ≡ v.place) × F.post change v.value w.value) (rows_of self) (rows_of result) }
     {
-        let mut changed = self.cut(0);
+        let mut changed = self.emptied();
         for row in self.as_slice() {
             let value = change(row.value);
             changed.push(Placed {

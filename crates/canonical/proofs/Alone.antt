@@ -8,10 +8,10 @@ use Rattle.canonical.specs.Kinds.{Kind, text, entry, ordered, rising, Kinds, one
 use Rattle.canonical.specs.Meanings.{a_derivation, Meaning, canonical}
 use Rattle.canonical.proofs.Home.{spell}
 
-heads : {a b : ℕ} {r s : List ℕ} → a ∷ r ≡ b ∷ s → a ≡ b
+pub heads : {a b : ℕ} {r s : List ℕ} → a ∷ r ≡ b ∷ s → a ≡ b
 heads e = cc
 
-tails : {a b : ℕ} {r s : List ℕ} → a ∷ r ≡ b ∷ s → r ≡ s
+pub tails : {a b : ℕ} {r s : List ℕ} → a ∷ r ≡ b ∷ s → r ≡ s
 tails e = cc
 
 abbrev Alone : {V : Type 0} → (V → List ℕ) → Type 0

@@ -2,6 +2,7 @@
 use Rattle.std.proofs.Common.{◌≡◌, ℕ, zero, suc, ◌≤◌, ◌⊎◌, List, [], ◌∷◌, ◌++◌, map, length, sym, refl, ap, ◌∙◌, subst, inl, inr, append_assoc, arith}
 use Rattle.std.specs.List.{AllByRecursion, flat_map}
 use Rattle.std.proofs.lemmas.List.{map-append}
+use Rattle.aterm.proofs.Laws.{tail_eq}
 use Rattle.aterm.specs.Grammar.{Sign, byte, end, signs, Char, plain, escaped, escape, Tree, Trees, Within, WithinAll, Every, raw, meaning, opener, more, rows, write, writes}
 use Rattle.aterm.specs.Files.{derivation, word, whole}
 use Rattle.aterm.proofs.Free.{not_quote, not_slash, head_byte}
@@ -87,16 +88,13 @@ mutual
       ∙ ap (λ (l : List Sign). map byte (canon k v.0) ++ (byte 44 ∷ l)) (backs ks t.1 v.1 c.1 w.1 m.1)
       ∙ sym (map-append byte (canon k v.0) (44 ∷ canons ks v.1))
 
-sign_tails : {a b : Sign} {r s : List Sign} → a ∷ r ≡ b ∷ s → r ≡ s
-sign_tails e = cc
-
 pub signs_once : (a b : List ℕ) → signs a ≡ signs b → a ≡ b
 signs_once [] [] e = refl
-signs_once [] (y ∷ b) e = absurd (let z : ◌≡◌ {A = ℕ} 0 1 = cc in omega arith)
-signs_once (x ∷ a) [] e = absurd (let z : ◌≡◌ {A = ℕ} 0 1 = cc in omega arith)
+signs_once [] (y ∷ b) e = absurd cc
+signs_once (x ∷ a) [] e = absurd cc
 signs_once (x ∷ a) (y ∷ b) e =
     let h : x ≡ y = head_byte e in
-    let r = signs_once a b (sign_tails e) in
+    let r = signs_once a b (tail_eq e) in
     λ i. h i ∷ r i
 
 pub keeps_limits : (bytes : List ℕ) (t : Tree derivation) → signs bytes ≡ whole t → Within derivation t

@@ -41,11 +41,6 @@ same_or_not a b = elim (cases_Bool (bytes_eq a b)) [
   | inr n ↦ inr (λ e. false≢true (sym n ∙ (bytes_eq-Decides a b).1 e))
 ]
 
--- what is not before b is not before what stands at b or later
-pub not_under_trans : (a b c : List ℕ) → (Under b a → ⊥) → (Under c b → ⊥) → Under c a → ⊥
-not_under_trans a b c h k u =
-    ⊎_elim (λ ab. k (under_trans c a b u ab)) (λ r. ⊎_elim (λ e. k (subst (Under c) e u)) h r) (trichotomy a b)
-
 -- the order that std computes
 then_compared : (x y : ℕ) (a b : List ℕ) (r s : Ordering) → MatchOrdering r (x < y) (x ≡ y) (y < x) → Compared a b s → Compared (x ∷ a) (y ∷ b) (ordering_then r s)
 then_compared x y a b Less s h k = inl h

@@ -1,4 +1,4 @@
-// A sink that compares what is written with a text, and the first place where a text differs from its canonical text.
+// A text held against what is written, and the first place where the two differ.
 ghost use Rattle.std.specs.Prelude.{◌≡◌, ℕ, List, Ok, Result};
 ghost use Rattle.aterm.specs.Grammar.{Tree, signs};
 ghost use Rattle.aterm.specs.Files.{derivation, whole, in_derivation};

@@ -1,15 +1,15 @@
 // A derivation: its rows sorted, and its canonical text, field by field.
-ghost use Rattle.std.specs.Prelude.{◌≡◌, ℕ, List, [], ◌∷◌, ◌++◌, map};
+ghost use Rattle.std.specs.Prelude.{ℕ};
 ghost use Rattle.aterm.specs.Grammar.{Tree};
 ghost use Rattle.aterm.specs.Files.{derivation, in_derivation};
 ghost use Rattle.sink.specs.Write.{Writes};
-ghost use Rattle.canonical.specs.Kinds.{canon, Means, Apart, Arranges};
+ghost use Rattle.canonical.specs.Kinds.{Means, Apart, Arranges};
 ghost use Rattle.canonical.specs.Meanings.{an_output, an_input, a_variable, a_file, a_derivation, derive, Meaning, canonical};
-ghost use Rattle.canonical.specs.Files.{said_in, output_value, input_value, variable_value, file_value, derivation_value};
+ghost use Rattle.canonical.specs.Files.{output_value, input_value, variable_value, file_value, derivation_value};
 
 use crate::row::{Canon, write_after, write_field};
 use crate::string::compare;
-use aterm::{Derivation, Input, Output, Rows, Span, Variable};
+use aterm::{Derivation, Input, Output, Variable};
 use sink::{Full, Sink};
 use std::cmp::Ordering;
 
@@ -22,7 +22,7 @@ impl Canon for Output {
         compare(text, self.name, other.name)
     }
 
-    fn arranged(self, text: &[u8]) -> Output {
+    fn arranged(self, _text: &[u8]) -> Output {
         self
     }
 
@@ -45,9 +45,8 @@ impl Canon for Input {
     }
 
     fn arranged(self, text: &[u8]) -> Input {
-        let sorted_names = self.names.arranged(text);
         Input {
-            names: sorted_names,
+            names: self.names.arranged(text),
             ..self
         }
     }
@@ -68,7 +67,7 @@ impl Canon for Variable {
         compare(text, self.name, other.name)
     }
 
-    fn arranged(self, text: &[u8]) -> Variable {
+    fn arranged(self, _text: &[u8]) -> Variable {
         self
     }
 

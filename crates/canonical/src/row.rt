@@ -1,5 +1,5 @@
 // Rows of a derivation: what they mean, their keys, and their canonical text.
-ghost use Rattle.std.specs.Prelude.{◌≡◌, ℕ, List, [], ◌∷◌, ◌++◌, map, length};
+ghost use Rattle.std.specs.Prelude.{ℕ, List, [], ◌∷◌, ◌++◌, map};
 ghost use Rattle.std.specs.List.{flat_map};
 ghost use Rattle.sink.specs.Write.{Writes};
 ghost use Rattle.aterm.specs.Tables.{rows_of};
@@ -45,7 +45,7 @@ impl Canon for Span {
         compare(text, *self, *other)
     }
 
-    fn arranged(self, text: &[u8]) -> Span {
+    fn arranged(self, _text: &[u8]) -> Span {
         self
     }
 
@@ -132,7 +132,7 @@ impl<T: Canon, const N: usize> Canon for Rows<T, N> {
     ghost value = { λ t v. map (λ p. T.Canon.value t p.value) (rows_of v) };
 
     // A table has no key.
-    fn order(&self, text: &[u8], other: &Rows<T, N>) -> Ordering {
+    fn order(&self, _text: &[u8], _other: &Rows<T, N>) -> Ordering {
         Ordering::Equal
     }
 

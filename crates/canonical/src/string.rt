@@ -17,7 +17,7 @@ pub fn compare(text: &[u8], a: Span, b: Span) -> Ordering
     a.meant(text).cmp(b.meant(text))
 }
 
-// The byte order of two strings, for such as stand in no text.
+// The byte order of two strings, for such as stand in no text. Public; no code here calls it.
 pub fn compare_bytes(a: &[u8], b: &[u8]) -> Ordering
     ensures { Compared a.now b.now result }
 {

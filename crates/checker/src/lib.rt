@@ -1,4 +1,4 @@
-// Settling the files of an image: what is kept of them, how the files of input rows stand, and put back. The other calls are defined in specs, and their code is to come.
+// Settling the files of an image: what is kept of them, how the files of input rows stand, and the call `put_back`. The other calls are defined in specs, and their code is to come.
 #![tactic(auto)]
 
 mod checker;

@@ -46,40 +46,27 @@ same_number p q e = sym (asked_number p) ∙ ap asked e ∙ asked_number q
 
 -- what is so of each question before one is so of those before it
 module _ (Clear : Question → Type 0) where
+  up_to : (n : ℕ) → (13 < n → Clear Present) → (14 < n → Clear Formed) → (15 < n → Clear Different) → (16 < n → Clear Fixed) → (17 < n → Clear Short) → (p : Question) → number p < n → Clear p
+  up_to n a b c d e Present h = a h
+  up_to n a b c d e Formed h = b h
+  up_to n a b c d e Different h = c h
+  up_to n a b c d e Fixed h = d h
+  up_to n a b c d e Short h = e h
+
   pub below_13 : (p : Question) → number p < 13 → Clear p
-  below_13 Present h = absurd (omega arith)
-  below_13 Formed h = absurd (omega arith)
-  below_13 Different h = absurd (omega arith)
-  below_13 Fixed h = absurd (omega arith)
-  below_13 Short h = absurd (omega arith)
+  below_13 = up_to 13 (λ h. absurd (omega arith)) (λ h. absurd (omega arith)) (λ h. absurd (omega arith)) (λ h. absurd (omega arith)) (λ h. absurd (omega arith))
 
   pub below_14 : Clear Present → (p : Question) → number p < 14 → Clear p
-  below_14 a Present h = a
-  below_14 a Formed h = absurd (omega arith)
-  below_14 a Different h = absurd (omega arith)
-  below_14 a Fixed h = absurd (omega arith)
-  below_14 a Short h = absurd (omega arith)
+  below_14 a = up_to 14 (λ h. a) (λ h. absurd (omega arith)) (λ h. absurd (omega arith)) (λ h. absurd (omega arith)) (λ h. absurd (omega arith))
 
   pub below_15 : Clear Present → Clear Formed → (p : Question) → number p < 15 → Clear p
-  below_15 a b Present h = a
-  below_15 a b Formed h = b
-  below_15 a b Different h = absurd (omega arith)
-  below_15 a b Fixed h = absurd (omega arith)
-  below_15 a b Short h = absurd (omega arith)
+  below_15 a b = up_to 15 (λ h. a) (λ h. b) (λ h. absurd (omega arith)) (λ h. absurd (omega arith)) (λ h. absurd (omega arith))
 
   pub below_16 : Clear Present → Clear Formed → Clear Different → (p : Question) → number p < 16 → Clear p
-  below_16 a b c Present h = a
-  below_16 a b c Formed h = b
-  below_16 a b c Different h = c
-  below_16 a b c Fixed h = absurd (omega arith)
-  below_16 a b c Short h = absurd (omega arith)
+  below_16 a b c = up_to 16 (λ h. a) (λ h. b) (λ h. c) (λ h. absurd (omega arith)) (λ h. absurd (omega arith))
 
   pub below_17 : Clear Present → Clear Formed → Clear Different → Clear Fixed → (p : Question) → number p < 17 → Clear p
-  below_17 a b c d Present h = a
-  below_17 a b c d Formed h = b
-  below_17 a b c d Different h = c
-  below_17 a b c d Fixed h = d
-  below_17 a b c d Short h = absurd (omega arith)
+  below_17 a b c d = up_to 17 (λ h. a) (λ h. b) (λ h. c) (λ h. d) (λ h. absurd (omega arith))
 
   pub every_question : Clear Present → Clear Formed → Clear Different → Clear Fixed → Clear Short → (p : Question) → Clear p
   every_question a b c d e Present = a
@@ -116,7 +103,7 @@ module _ (path text : List ℕ) where
   Said d q = (x : Tree derivation) → in_derivation text 7 d x → Answer path x q None
 
   module _ (d : Derivation) (r : Reading text d) (reads : (g : TextFault) → IsFault text g → ⊥) where
-    pub row_refused : (q : Question) (w : Spot) → ((p : Question) → number p < number q → Answer path r.tree p None) → Answer path r.tree q (Some w) → IsFileFault path text (Row q w) × ((g : FileFault) → IsFileFault path text g → g ≡ Row q w)
+    row_refused : (q : Question) (w : Spot) → ((p : Question) → number p < number q → Answer path r.tree p None) → Answer path r.tree q (Some w) → IsFileFault path text (Row q w) × ((g : FileFault) → IsFileFault path text g → g ≡ Row q w)
     row_refused q w passed found = (this, other)
       where
         this : Refused path text q w

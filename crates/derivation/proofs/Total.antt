@@ -1,5 +1,5 @@
 -- Each question is decided of each entry, so every tree is judged.
-use Rattle.std.proofs.Common.{◌≡◌, ℕ, ◌<◌, ◌⊎◌, List, [], ◌∷◌, ◌++◌, length, Some, None, codes, refl, ap, subst, inl, inr, arith}
+use Rattle.std.proofs.Common.{◌≡◌, ℕ, ◌<◌, ◌⊎◌, List, [], ◌∷◌, ◌++◌, length, Some, None, codes, refl, ap, subst, inl, inr}
 use Rattle.std.proofs.lemmas.Bool.{cases_eq}
 use Rattle.aterm.specs.Grammar.{Tree, string, raw, meaning}
 use Rattle.aterm.specs.Files.{output, input, derivation}
@@ -19,8 +19,8 @@ either (inl p) q = inl (inl p)
 either (inr p) (inl q) = inl (inr q)
 either (inr p) (inr q) = inr (λ z. elim z [ inl x ↦ p x | inr y ↦ q y ])
 
-filled : {X : Type 0} (x : X) (xs : List X) → x ∷ xs ≡ [] → ⊥
-filled x xs e = let z : ◌≡◌ {A = ℕ} 0 1 = cc in omega arith
+pub filled : {X : Type 0} (x : X) (xs : List X) → x ∷ xs ≡ [] → ⊥
+filled x xs e = cc
 
 empty : {X : Type 0} (xs : List X) → Known (xs ≡ [])
 empty [] = inl refl
@@ -101,7 +101,7 @@ known_fixed : (os : List (Tree output)) → Known (FixedFile os)
 known_fixed [] = inr (λ f. none f.only f.whole)
   where
     none : (o : Tree output) → ◌≡◌ {A = List (Tree output)} [] (o ∷ []) → ⊥
-    none o e = let z : ◌≡◌ {A = ℕ} 0 1 = cc in omega arith
+    none o e = cc
 known_fixed (x ∷ []) = like (λ h. record { only = x; whole = refl; given = h }) (λ f. subst hashed (same f.only f.whole) f.given) (known_hashed x)
   where
     same : (o : Tree output) → ◌≡◌ {A = List (Tree output)} (x ∷ []) (o ∷ []) → o ≡ x

@@ -9,6 +9,7 @@ abbrev mutual
   pub key_of : (s : Shape) → Tree s → Tree string
   key_of string cs = cs
   key_of (row fs) t = first_of fs t
+  -- a list has no key
   key_of (list n s) ts = []
 
   pub first_of : (fs : Fields) → Trees fs → Tree string

@@ -9,7 +9,7 @@ use crate::spot::Spot;
 use aterm::Placed;
 
 // A question that a row is asked, after the rows before it.
-// A trait and not a closure: each of ten closures would have to carry in a clause what its rows hold and what its answer means. Here that stands once.
+// A trait and not a closure: each of nine closures would have to carry in a clause what its rows hold and what its answer means. Here that stands once.
 pub trait Ask<T> {
     // what a row holds of the text; given here, since the type of `yes` cannot name a member of `T`
     ghost rows: { Holding T };

@@ -13,7 +13,7 @@ use crate::spot::Spot;
 use aterm::Derivation;
 
 // A file whose text was read; each question answers where its first no is.
-// Each call names its field and that field's list: a method a field would say the same in four functions more.
+// Each call names its field and that field's list: one method for each field would only add four functions that say the same.
 #[derive(Clone, Copy)]
 struct Asked<'a> {
     path: &'a [u8],

@@ -21,14 +21,14 @@ fn is_plain(s: &[u8]) -> bool
 fn is_plain_name(s: &[u8]) -> bool
     ensures { Decides result (Plain s.now × Name s.now) }
 {
-    is_plain(s) & is_name(s)
+    is_plain(s) && is_name(s)
 }
 
 // A store path without backslash.
 fn is_plain_path(s: &[u8]) -> bool
     ensures { Decides result (Plain s.now × StorePath s.now) }
 {
-    is_plain(s) & is_store_path(s)
+    is_plain(s) && is_store_path(s)
 }
 
 // A row of field 1. What algorithm and hash say is for question 16; here they only have no backslash.
@@ -41,12 +41,10 @@ impl Ask<Output> for FormedOutput {
     ghost yes = { λ q ys x. formed_output ys x };
 
     fn says(&self, text: &[u8], _earlier: &[Placed<Output>], row: &Output) -> bool {
-        let name = row.name.bytes(text);
-        let path = row.path.bytes(text);
-        let algorithm = row.algorithm.bytes(text);
-        let hash = row.hash.bytes(text);
-        let plain = is_plain(algorithm) & is_plain(hash);
-        is_plain_name(name) & is_plain_path(path) & plain
+        is_plain_name(row.name.bytes(text))
+            && is_plain_path(row.path.bytes(text))
+            && is_plain(row.algorithm.bytes(text))
+            && is_plain(row.hash.bytes(text))
     }
 }
 
@@ -75,8 +73,9 @@ impl Ask<Input> for FormedInput {
 
     fn says(&self, text: &[u8], _earlier: &[Placed<Input>], row: &Input) -> bool {
         let path = row.path.bytes(text);
-        let names = all_yes(&FormedName, text, row.names.as_slice());
-        is_plain_path(path) & ends_with_drv(path) & names
+        is_plain_path(path)
+            && ends_with_drv(path)
+            && all_yes(&FormedName, text, row.names.as_slice())
     }
 }
 

@@ -39,7 +39,7 @@ impl Keyed for Variable {
     }
 }
 
-// Whether a row's key means the same as another.
+// Whether a row's key means what is left of `key`.
 fn has_key<T: Keyed>(text: &[u8], row: &T, key: Meant<'_>) -> bool
     ensures { (at : ℕ) (x : Tree T.shape) → T.holds text.now at row.now x → Decides result (meaning (key_of T.shape x) ≡ meant_left key.entry) }
 {
@@ -71,8 +71,6 @@ impl Ask<Input> for FreshInput {
     ghost yes = { λ q ys x. different_input ys x };
 
     fn says(&self, text: &[u8], earlier: &[Placed<Input>], row: &Input) -> bool {
-        let path = Fresh.says(text, earlier, row);
-        let names = all_yes(&Fresh, text, row.names.as_slice());
-        path & names
+        Fresh.says(text, earlier, row) && all_yes(&Fresh, text, row.names.as_slice())
     }
 }

@@ -1,5 +1,5 @@
 // What the questions 13, 16 and 17 ask of a row.
-ghost use Rattle.std.specs.Prelude.{◌≡◌, ◌≢◌, ℕ, ◌-◌, ◌<◌, ◌≤◌, T as Is, ◌⊎◌, List, length, Decides, MatchOption};
+ghost use Rattle.std.specs.Prelude.{◌≡◌, ◌≢◌, ℕ, ◌-◌, ◌<◌, ◌≤◌, T as Is, ◌⊎◌, List, Decides, MatchOption};
 ghost use Rattle.aterm.specs.Grammar.{raw, Tree};
 ghost use Rattle.aterm.specs.Reads.{Each};
 ghost use Rattle.aterm.specs.Files.{output, in_output};
@@ -44,7 +44,7 @@ impl Ask<Output> for EmptyUnlessFixed {
     fn says(&self, text: &[u8], _earlier: &[Placed<Output>], row: &Output) -> bool {
         let algorithm = row.algorithm.bytes(text);
         let hash = row.hash.bytes(text);
-        self.fixed | (algorithm.is_empty() & hash.is_empty())
+        self.fixed || (algorithm.is_empty() && hash.is_empty())
     }
 }
 
@@ -70,20 +70,10 @@ fn is_given(algorithm: &[u8], hash: &[u8]) -> bool
 }
 
 // Whether an output is `out`, with a hash.
-#[derive(Clone, Copy)]
-pub struct FixedOutput;
-
-impl Ask<Output> for FixedOutput {
-    ghost rows = { of_outputs };
-
-    ghost yes = { λ q ys x. hashed x };
-
-    fn says(&self, text: &[u8], _earlier: &[Placed<Output>], row: &Output) -> bool {
-        let name = row.name.bytes(text);
-        let algorithm = row.algorithm.bytes(text);
-        let hash = row.hash.bytes(text);
-        (name == OUT) & is_given(algorithm, hash)
-    }
+fn is_hashed(text: &[u8], row: &Output) -> bool
+    ensures { (at : ℕ) (x : Tree output) → in_output text.now at row.now x → Decides result (hashed x) }
+{
+    row.name.bytes(text) == OUT && is_given(row.algorithm.bytes(text), row.hash.bytes(text))
 }
 
 // Whether the only output is `out`, with a hash.
@@ -91,7 +81,7 @@ pub fn is_fixed(text: &[u8], outputs: &[Placed<Output>]) -> bool
     ensures { (from : ℕ) (xs : List (Tree output)) → Each output (in_output text.now) from outputs.now xs → Decides result (FixedFile xs) }
 {
     match outputs {
-        [only] => FixedOutput.says(text, &[], &only.value),
+        [only] => is_hashed(text, &only.value),
         _ => false,
     }
 }

@@ -96,12 +96,6 @@ along_there R P Q f [] (y ∷ ys) r a = absurd r
 along_there R P Q f (x ∷ xs) [] r a = absurd r
 along_there R P Q f (x ∷ xs) (y ∷ ys) r a = (f x y r.0 a.0, along_there R P Q f xs ys r.1 a.1)
 
-pub along_back : {X Y : Type 0} (R : X → Y → Type 0) (P : X → Type 0) (Q : Y → Type 0) → ((x : X) (y : Y) → R x y → Q y → P x) → (xs : List X) (ys : List Y) → Along R xs ys → AllByRecursion Q ys → AllByRecursion P xs
-along_back R P Q f [] [] r a = tt
-along_back R P Q f [] (y ∷ ys) r a = absurd r
-along_back R P Q f (x ∷ xs) [] r a = absurd r
-along_back R P Q f (x ∷ xs) (y ∷ ys) r a = (f x y r.0 a.0, along_back R P Q f xs ys r.1 a.1)
-
 pub along_back_with : {X Y : Type 0} (R : X → Y → Type 0) (C P : X → Type 0) (Q : Y → Type 0) → ((x : X) (y : Y) → R x y → C x → Q y → P x) → (xs : List X) (ys : List Y) → Along R xs ys → AllByRecursion C xs → AllByRecursion Q ys → AllByRecursion P xs
 along_back_with R C P Q f [] [] r c a = tt
 along_back_with R C P Q f [] (y ∷ ys) r c a = absurd r

@@ -1,5 +1,5 @@
 -- To pass the questions is a property of the meaning: a canonical tree of the same meaning passes them too.
-use Rattle.std.proofs.Common.{◌≡◌, ℕ, ◌≤◌, ◌⊎◌, List, [], ◌∷◌, length, codes, sym, refl, ap, ◌∙◌, subst, inl, inr, arith}
+use Rattle.std.proofs.Common.{◌≡◌, ℕ, ◌≤◌, ◌⊎◌, List, [], ◌∷◌, length, codes, sym, refl, ap, ◌∙◌, subst, inl, inr}
 use Rattle.std.proofs.ByRecursion.{All-weaker}
 use Rattle.std.specs.List.{AllByRecursion}
 use Rattle.aterm.specs.Files.{output, input, variable, derivation}
@@ -8,6 +8,7 @@ use Rattle.store_path.specs.Names.{Name, StorePath, Drv}
 use Rattle.derivation.specs.Asked.{Throughout}
 use Rattle.derivation.specs.Questions.{named, Plain, formed_output, formed_name, formed_input, formed_source, fresh, different_input, Given, hashed, FixedFile, blank, output_name}
 use Rattle.derivation.proofs.Meant.{plain_means}
+use Rattle.derivation.proofs.Total.{filled}
 use Rattle.canonical.specs.Canonical.{Proper, Canonical}
 use Rattle.canonical.specs.Kinds.{Kind, text, rising, shape, Value, key, tree_key, Sorts, Means, Apart}
 use Rattle.canonical.specs.Meanings.{an_output, an_input, a_variable, a_derivation, Meaning}
@@ -48,9 +49,6 @@ no_values : (k : Kind) (n : ℕ) (ts : List (Tree (shape k))) (vs : List (Value 
 no_values k n [] vs m e = refl
 no_values k n (t ∷ ts) vs ([], (a, s)) e = absurd a
 no_values k n (t ∷ ts) vs (w ∷ ws, (a, s)) e = absurd (subst (Member w) e (s.same.there w (inl refl)))
-
-filled : {X : Type 0} (x : X) (xs : List X) → x ∷ xs ≡ [] → ⊥
-filled x xs e = let z : ◌≡◌ {A = ℕ} 0 1 = cc in omega arith
 
 along_none : {X Y : Type 0} (R : X → Y → Type 0) (xs : List X) (ys : List Y) → Along R xs ys → xs ≡ [] → ys ≡ []
 along_none R [] [] a e = refl

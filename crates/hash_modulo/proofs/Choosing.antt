@@ -12,9 +12,6 @@ use Rattle.hash_modulo.specs.Sets.{Bytes, Files, Present, Means, Readable, Row, 
 use Rattle.hash_modulo.proofs.Founding.{reads_present, hashable_reads, hashable_ready, Place, onward, less_length}
 use Rattle.hash_modulo.proofs.Hashes.{one_text, no_cycle, inputs_hashable, one_meaning}
 
-clash : ◌≡◌ {A = ℕ} 0 1 → ⊥
-clash e = omega arith
-
 -- all, or one that is not
 abbrev AllOrOne : {A : Type 0} → (A → Type 0) → List A → Type 0
 AllOrOne {A} P xs = ((a : A) → Member a xs → P a) ⊎ ((a : A) × Member a xs × (P a → ⊥))
@@ -43,14 +40,14 @@ named? (o ∷ os) n = elim (same_text o.0 n) [
 ]
 
 pub present? : (o : Option Bytes) → Known ((t : Bytes) × (o ≡ Some t))
-present? None = inr (λ z. let e = z.1 in clash (cc))
+present? None = inr (λ z. let e = z.1 in cc)
 present? (Some t) = inl (t, refl)
 
 readable? : (set : Files) (p : Bytes) → Known (Readable set p)
 readable? set p = at (set p) refl
   where
     at : (o : Option Bytes) → set p ≡ o → Known (Readable set p)
-    at None e = inr (λ z. let f = z.1.at in clash (cc))
+    at None e = inr (λ z. let f = z.1.at in cc)
     at (Some t) e = elim (every_file p t) [
       | inl x ↦ inl (x.0, record { text = t; at = e; reads = x.1 })
       | inr f ↦ inr (λ z. not_both p t z.0 f.0 (subst (λ (u : Bytes). Reads p u z.0) (one_text (set p) z.1.text t z.1.at e) z.1.reads) f.1)

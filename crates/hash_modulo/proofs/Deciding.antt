@@ -1,5 +1,5 @@
 -- Of every meaning it is decided whether its file is fixed.
-use Rattle.std.proofs.Common.{◌≡◌, ℕ, ◌⊎◌, List, [], ◌∷◌, ◌++◌, length, codes, refl, subst, inl, inr, arith}
+use Rattle.std.proofs.Common.{◌≡◌, ℕ, ◌⊎◌, List, [], ◌∷◌, ◌++◌, length, codes, refl, subst, inl, inr}
 use Rattle.std.proofs.lemmas.Bool.{cases_eq}
 use Rattle.canonical.specs.Kinds.{Value}
 use Rattle.canonical.specs.Meanings.{an_output, Meaning}
@@ -33,9 +33,6 @@ given? a h =
     back (sha256, g) = inr (inr (inl g))
     back (sha512, g) = inr (inr (inr g))
 
-clash : ◌≡◌ {A = ℕ} 0 1 → ⊥
-clash e = omega arith
-
 record FixedRows (os : List (Value an_output)) : Type 0 where
   only : Value an_output
   whole : os ≡ only ∷ []
@@ -43,7 +40,7 @@ record FixedRows (os : List (Value an_output)) : Type 0 where
   given : Given only.1.1.0 only.1.1.1
 
 rows? : (os : List (Value an_output)) → Known (FixedRows os)
-rows? [] = inr (λ f. clash (none f.only f.whole))
+rows? [] = inr (λ f. let e = none f.only f.whole in cc)
   where
     none : (o : Value an_output) → [] ≡ o ∷ [] → ◌≡◌ {A = ℕ} 0 1
     none o e = cc
@@ -58,7 +55,7 @@ rows? (o ∷ []) =
       where
         one : (x : Value an_output) → o ∷ [] ≡ x ∷ [] → x ≡ o
         one x q = cc
-rows? (o ∷ p ∷ os) = inr (λ f. clash (two f.only f.whole))
+rows? (o ∷ p ∷ os) = inr (λ f. let e = two f.only f.whole in cc)
   where
     two : (x : Value an_output) → o ∷ p ∷ os ≡ x ∷ [] → ◌≡◌ {A = ℕ} 0 1
     two x e = cc

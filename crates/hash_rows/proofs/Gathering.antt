@@ -1,13 +1,10 @@
 -- From pairs to rows, one more pair at a time.
-use Rattle.std.proofs.Common.{◌≡◌, ℕ, ◌⊎◌, List, [], ◌∷◌, ◌++◌, sym, refl, ap, ◌∙◌, subst, inl, inr, arith}
+use Rattle.std.proofs.Common.{◌≡◌, ℕ, ◌⊎◌, List, [], ◌∷◌, ◌++◌, sym, refl, ap, ◌∙◌, subst, inl, inr}
 use Rattle.std.proofs.lemmas.List.{append_assoc, same_from_push}
 use Rattle.canonical.proofs.Orders.{same_or_not}
 use Rattle.hash_rows.specs.Keyed.{In, Iff, Has, Placed, Last, Gathered}
 
 module _ {X : Type 0} (key : X → List ℕ) where
-  clash : ◌≡◌ {A = ℕ} 0 1 → ⊥
-  clash e = omega arith
-
   push_in : (x : X) (ps : List X) (y : X) → Iff (In y (ps ++ x ∷ [])) (In y ps ⊎ (y ≡ x))
   push_in x [] y = (λ m. elim m [ inl e ↦ inr e | inr k ↦ inl k ], λ m. elim m [ inl k ↦ inr k | inr e ↦ inl e ])
   push_in x (p ∷ ps) y = more x p ps (ps ++ x ∷ []) y (push_in x ps y)
@@ -31,8 +28,8 @@ module _ {X : Type 0} (key : X → List ℕ) where
       [ inl e ↦ inr ([], x, cc) | inr w ↦ inr (x ∷ w.0, w.1, ap (λ (q : List X). x ∷ q) w.2) ]
 
   last_none : (x : X) → Last key x [] → ⊥
-  last_none x ([], a, e, n) = clash (cc)
-  last_none x (b ∷ bs, a, e, n) = clash (cc)
+  last_none x ([], a, e, n) = cc
+  last_none x (b ∷ bs, a, e, n) = cc
 
   pub gathered_none : Gathered key [] []
   gathered_none = record {

@@ -14,12 +14,6 @@ swapped_is t v a =
       | inr n ↦ inr (n, cond-false (eqb a t) v a (ne_eqb a t n))
     ]
 
-Between : ℕ → (ℕ → ℕ) → Type 0
-Between c f = (m : ℕ) → m < suc c → (0 < f m) × (f m ≤ c)
-
-Apart : ℕ → (ℕ → ℕ) → Type 0
-Apart n f = (l m : ℕ) → l < m → m < n → f l ≡ f m → ⊥
-
 module _ (c : ℕ) (f : ℕ → ℕ) (b : (m : ℕ) → m < suc (suc c) → (0 < f m) × (f m ≤ suc c)) (d : (l m : ℕ) → l < m → m < suc (suc c) → f l ≡ f m → ⊥) where
   less : (m : ℕ) → m < suc c → (0 < swapped (suc c) (f (suc c)) (f m)) × (swapped (suc c) (f (suc c)) (f m) ≤ c)
   less m h =

@@ -11,12 +11,12 @@ use Rattle.canonical.specs.Order.{Member, Different}
 use Rattle.canonical.proofs.Members.{member_all}
 use Rattle.canonical.proofs.Spans.{span_means}
 use Rattle.derivation.specs.declared.field.Field.TheVariants.{Environment}
-use Rattle.derivation.proofs.Scan.{Split, Clean}
+use Rattle.derivation.proofs.Scan.{Split, Clean, spot}
 use Rattle.hash_modulo.specs.Sets.{Bytes}
 use Rattle.right_paths.specs.declared.hashes.Digits.{Digits}
 use Rattle.verdict.proofs.Rows.{each, row_there}
 use Rattle.judge.specs.Stated.{here, nowhere, RightFor, VariableTold}
-use Rattle.judge.proofs.Standing.{spot, row_stands}
+use Rattle.judge.proofs.Standing.{row_stands}
 use Rattle.judge.proofs.Stating.{right_moved}
 
 -- where keys differ, one row has a key

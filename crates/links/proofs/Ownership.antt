@@ -30,15 +30,11 @@ map_member f [] x i = absurd i
 map_member f (y ∷ xs) x (inl e) = inl (ap f e)
 map_member f (y ∷ xs) x (inr i) = inr (map_member f xs x i)
 
--- a file that is not there owns what is wanted
-pub owned_absent : (set : Files) (p : Bytes) (ns : List Bytes) → ((t : Bytes) → set p ≡ Some t → ⊥) → Owned set (p, ns)
-owned_absent set p ns none m f n i = absurd (none f.text f.at)
-
 module _ (set : Files) (p text : Bytes) (there : set p ≡ Some text) where
   read_here : (m : Meaning) → sets.Means set p m → Reads p text m
   read_here m f = subst (λ (t : Bytes). Reads p t m) (one_text (set p) f.text text f.at there) f.reads
 
-  -- and so does one that does not read
+  -- a file that does not read owns what is wanted of it
   pub owned_unread : (f : FileFault) → IsFileFault p text f → (ns : List Bytes) → Owned set (p, ns)
   owned_unread f fault ns m means n i = absurd (not_both p text m f (read_here m means) fault)
 

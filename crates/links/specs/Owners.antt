@@ -30,7 +30,7 @@ OutputsAre text vs os = (from : ℕ) × Each output (in_output text) from vs os
 pub record NameOwned (text : Bytes) (vs : List (Placed Output)) (n : Bytes) (r : Bool) : Type 0 where
   pub right : (os : List (Tree output)) → OutputsAre text vs os → Decides r (OwnsOutput os n)
 
--- the file of this number among the first n has this path and this text, and no other of them has the path
+-- the file of this number, counted from 1, has this path, and what the set of the first n files has at it is this text
 pub record Stands (img : Bytes) (n number : ℕ) (path text : Bytes) : Type 0 where
   pub from : 1 ≤ number
   pub named : file_path img number ≡ path

@@ -17,7 +17,7 @@ pub fn find_file<'a>(image: &Image<'a>, path: &[u8]) -> Option<(usize, File<'a>)
     Some((before + 1, file))
 }
 
-// The number of the file at this path, if there is one.
+// The number of the file at this path, if there is one. Public; no code here calls it.
 pub fn find(image: &Image<'_>, path: &[u8]) -> Option<usize>
     ensures found { Found (bytes_of image.now) (files_of image.now) path.now result }
     ensures few { IfSome result (λ number. number ≤ 256) }

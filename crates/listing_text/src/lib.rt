@@ -23,9 +23,9 @@ pub fn listing_of<D: DigestSink>(
 {
     // The longest there can be, and then cut: a sink over a growing vector would have to tell want of memory beside `Full`.
     let mut text = vec![in heap; 0u8; LONGEST_LISTING]?;
-    let Ok(count) = list_into(&mut text, digest, bytes) else {
-        return Err(anyhow!("the listing is too long"));
-    };
+    let count = list_into(&mut text, digest, bytes).map_err(|_| anyhow!(
+        "the listing is too long"
+    ))?;
     text.truncate(count);
     Ok(text)
 }

@@ -1,7 +1,6 @@
 // A recorder: a layer over a digest sink that also keeps what it is given.
 #![tactic(auto)]
 
-mod keep;
 mod layer;
 mod table;
 

@@ -7,6 +7,7 @@ pub fn percent_of(files: usize, accepted: usize) -> u128
     ensures { result ≡ percent files accepted }
 {
     if files == 0 {
+        // what the definition says of no files, and no sign that an answer is missing
         return 100;
     }
     100 * accepted as u128 / files as u128

@@ -11,9 +11,6 @@ use Rattle.hash_modulo.specs.Strings.{Blank, Limits}
 use Rattle.hash_modulo.proofs.Lengths.{inner_short, fixed_path_short}
 use Rattle.right_paths.specs.Worked.{FixedBy, FixedShort}
 
-clash : ◌≡◌ {A = ℕ} 0 1 → ⊥
-clash e = omega arith
-
 other : ◌≡◌ {A = Bool} false true → ⊥
 other e = cc
 
@@ -32,7 +29,7 @@ named a h k g e = elim g.named [
 
 module _ {X Y : Type 0} (of : X → Y) (F : Y → Value an_output) (m : Meaning) (xs : List X) (x : X) (rows : m.0 ≡ map (λ y. F (of y)) xs) (first : Some x ≡ slice_get xs 0) where
   first_row : (xs : List X) → Some x ≡ slice_get xs 0 → (rest : List X) × (xs ≡ x ∷ rest)
-  first_row [] e = absurd (clash (cc))
+  first_row [] e = absurd (cc)
   first_row (y ∷ xs) e = (xs, cc)
 
   those : (rest : List X) × (m.0 ≡ F (of x) ∷ map (λ y. F (of y)) rest)

@@ -42,10 +42,7 @@ fn fixed_output(text: &[u8], file: &Derivation) -> Option<Output>
     ensures { MatchOption result (Fixed (derivation_value text.now file.now) → ⊥) (λ o. FixedBy (derivation_value text.now file.now) (output_value text.now o)) }
 {
     let first = file.outputs.as_slice().first()?;
-    let algorithm = Said {
-        text,
-        span: first.value.algorithm,
-    };
+    let algorithm = Said::new(text, first.value.algorithm);
     (!algorithm.is_blank()).then_some(first.value)
 }
 
@@ -63,10 +60,7 @@ impl<'a> SortedFile<'a> {
     pub fn said(&self, span: Span) -> Said<'a>
         ensures { result ≡ said_of self.now span }
     {
-        Said {
-            text: self.text,
-            span,
-        }
+        Said::new(self.text, span)
     }
 
     // An output of it.
@@ -132,12 +126,10 @@ impl<'a> SortedFile<'a> {
         requires few { own.count ≤ 2097152 }
         ensures { (g : Bytes → Bytes) → Aligned g (file_by self.now).1.0 hashes.now → (rows : List Row) × RowsRight g (file_by self.now).1.0 rows × TextRest S.Sink.step S.DigestSink.start S.DigestSink.capacity S.DigestSink.answered self.now.path.now (file_by self.now) rows own (S.Sink.held sink.old).meaning result (S.Sink.held sink.new).meaning }
     {
-        let text = self.text;
-        let file = self.file;
-        let rows = hash_inputs(&file.inputs, hashes);
-        let inputs = &rows;
-        let whole = pour(&WholeText { text, file, inputs }, sink);
-        let masked = pour(&MaskedText { text, file, inputs }, sink);
+        let of = *self;
+        let inputs = &hash_inputs(&self.file.inputs, hashes);
+        let whole = pour(&WholeText { of, inputs }, sink);
+        let masked = pour(&MaskedText { of, inputs }, sink);
         // Arrays go by a name of their own into a struct: the borrow checker asks it.
         let hash = whole.value;
         let masked_hash = masked.value;

@@ -34,10 +34,7 @@ impl<'a> FileOutput<'a> {
     fn said(&self, span: Span) -> Said<'a>
         ensures { said_by result ≡ said_in self.now.text.now span }
     {
-        Said {
-            text: self.text,
-            span,
-        }
+        Said::new(self.text, span)
     }
 
     // Its path in a file that is not fixed, by the masked hash.

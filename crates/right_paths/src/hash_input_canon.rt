@@ -13,14 +13,13 @@ impl Canon for HashInput {
     ghost value = { hash_input_value };
 
     // Hex keeps the order of the bytes.
-    fn order(&self, text: &[u8], other: &HashInput) -> Ordering {
+    fn order(&self, _text: &[u8], other: &HashInput) -> Ordering {
         self.hash.cmp(&other.hash)
     }
 
     fn arranged(self, text: &[u8]) -> HashInput {
-        let sorted_names = self.names.arranged(text);
         HashInput {
-            names: sorted_names,
+            names: self.names.arranged(text),
             ..self
         }
     }

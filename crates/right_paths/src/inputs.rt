@@ -13,29 +13,30 @@ use aterm::{Input, Placed, Rows};
 use hash_rows::{Hash, HashRow, HashRows, gather_from};
 use std::array;
 
-// Row `i` of the table, with the names of the input that it numbers; past the last row, one without names.
-fn row_with_names(inputs: &[Placed<Input>], rows: &[HashRow], i: usize) -> Placed<HashInput>
-    ensures { (t : List ℕ) (d : HashRow) → i < length rows.now → hash_input_value t result.value ≡ named (values (input_value t) inputs.now) (slice_index_or rows.now i d) }
+// Row `i` of the table, with the names of the input that it numbers; past the last row, a default one, which nothing reads.
+fn row_with_names(inputs: &[Placed<Input>], rows: &[HashRow], i: usize) -> HashInput
+    ensures { (t : List ℕ) (d : HashRow) → i < length rows.now → hash_input_value t result ≡ named (values (input_value t) inputs.now) (slice_index_or rows.now i d) }
 {
-    let row = rows.get(i).copied().unwrap_or_default();
+    let Some(row) = rows.get(i) else {
+        return HashInput::default();
+    };
     let input = inputs.get(row.row);
     let names = input.map(|input| input.value.names).unwrap_or_default();
-    // Such a row stands in no text, and nothing reads its place.
-    Placed {
-        place: 0,
-        value: HashInput {
-            hash: row.hash,
-            names,
-        },
+    HashInput {
+        hash: row.hash,
+        names,
     }
 }
 
-// The rows of the table, each with its names.
+// The rows of the table, each with its names. A row with a hash stands in no text, and nothing reads its place.
 fn table_with_names(inputs: &[Placed<Input>], table: &HashRows) -> Rows<HashInput, 64>
     ensures { (t : List ℕ) → values (hash_input_value t) (rows_of result) ≡ map (named (values (input_value t) inputs.now)) (held table.now) }
 {
     let rows = table.as_slice();
-    let items = array::from_fn(|i| row_with_names(inputs, rows, i));
+    let items = array::from_fn(|i| Placed {
+        place: 0,
+        value: row_with_names(inputs, rows, i),
+    });
     Rows {
         items,
         len: rows.len(),

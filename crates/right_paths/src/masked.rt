@@ -36,10 +36,7 @@ fn is_output_name(outputs: &[Placed<Output>], name: Said<'_>) -> bool
 fn mask_variable(text: &[u8], outputs: &[Placed<Output>], variable: Variable) -> Variable
     ensures { variable_value text.now result ≡ mask_variable (values (output_value text.now) outputs.now) (variable_value text.now variable) }
 {
-    let name = Said {
-        text,
-        span: variable.name,
-    };
+    let name = Said::new(text, variable.name);
     if is_output_name(outputs, name) {
         return Variable {
             value: Span::default(),

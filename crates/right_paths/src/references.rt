@@ -66,7 +66,7 @@ impl<'a> Iterator for References<'a> {
         let text = self.text;
         let (span, rest) = self.step()?;
         *self = rest;
-        Some(Said { text, span })
+        Some(Said::new(text, span))
     }
 }
 

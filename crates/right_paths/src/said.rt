@@ -24,6 +24,13 @@ impl<'a> ToSink for Said<'a> {
 }
 
 impl<'a> Said<'a> {
+    // The string of the text at this place.
+    pub fn new(text: &'a [u8], span: Span) -> Said<'a>
+        ensures { (result.text ≡ text.entry) × (result.span ≡ span) }
+    {
+        Said { text, span }
+    }
+
     // Whether it means nothing.
     pub fn is_blank(self) -> bool
         ensures { Decides result (said_by self.entry ≡ []) }

@@ -108,7 +108,7 @@ store = record {
 }
 
 some_output : (o : Tree output) → o ∷ [] ≡ [] → ⊥
-some_output o e = let z : ◌≡◌ {A = ℕ} 0 1 = cc in omega arith
+some_output o e = cc
 
 passes : (vs : List (Tree variable)) → Throughout different_variable [] vs → Passes path (tree vs)
 unfolding path
@@ -180,10 +180,10 @@ output_right env g =
 -- ---- their verdicts
 
 unhashed_not : (s : Spot) → ◌≡◌ {A = Verdict} (Ok tt) (Err (Unhashed s)) → ⊥
-unhashed_not s e = let z : ◌≡◌ {A = ℕ} 0 1 = cc in omega arith
+unhashed_not s e = cc
 
 variable_not : (s t : Spot) → ◌≡◌ {A = Verdict} (Err (WrongVariable s)) (Err (Unhashed t)) → ⊥
-variable_not s t e = let z : ◌≡◌ {A = ℕ} 0 1 = cc in omega arith
+variable_not s t e = cc
 
 -- a verdict that is not 20 is the only one
 only : (set : Files) (p : Bytes) (v : Verdict) → ((s : Spot) → v ≡ Err (Unhashed s) → ⊥) → Judged set zero_answer p v → VerdictIs set p v

@@ -55,10 +55,6 @@ late b w t v h e = e ∙ mixed_front w t h ∙ sym (ap (λ q. cond q (word_at b 
 pub schedule_all : (b w : List ℕ) (t : ℕ) → t ≡ 64 → length w ≡ 64 → take t w ≡ schedule t b → w ≡ schedule 64 b
 schedule_all b w t n l e = sym (take_all t w (omega arith)) ∙ e ∙ ap (λ k. schedule k b) n
 
-rounds_more : (ws s : List ℕ) (t : ℕ) → rounds (t + 1) ws s ≡ round (rounds t ws s) (get_or K t 0) (get_or ws t 0)
-unfolding rounds
-rounds_more ws s t = rw add-one refl
-
 length_K : length K ≡ 64
 unfolding K
 length_K = refl

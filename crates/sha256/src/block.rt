@@ -32,7 +32,8 @@ fn schedule(block: &[u8; 64]) -> [u32; 64]
     ensures { result ≡ fips.schedule 64 block.now }
 {
     let mut w = [0u32; 64];
-    // By places: these are the first 16 of 64, and `array::from_fn` would make a second array, to be copied.
+    // By places: these are the first 16 of 64. `array::from_fn` would make a second array, to be copied,
+    // and with `zip` over `iter_mut` the loop's invariant has no name for the array, so the proof did not close.
     'first: for (t, bytes) in block.as_chunks().0.iter().enumerate() {
         w[t] = u32::from_be_bytes(*bytes);
     }

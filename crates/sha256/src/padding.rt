@@ -12,7 +12,8 @@ static FILLER: [u8; 64] = [
 
 // What stands between a message of `count` bytes and its length.
 pub fn filler(count: u64) -> &'static [u8]
-    ensures { result.now ≡ 128 ∷ replicate (fips.zeros count) 0 }
+    ensures bytes { result.now ≡ 128 ∷ replicate (fips.zeros count) 0 }
+    ensures least { fips.LeastZeros count (fips.zeros count) }
 {
     &FILLER[..(119 - count as usize % 64) % 64 + 1]
 }

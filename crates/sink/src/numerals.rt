@@ -6,7 +6,7 @@ ghost use Rattle.sink.specs.Write.{Taken, Writes};
 use crate::{Full, Sink};
 use itoa::{Buffer, Integer};
 
-// By hand, as the kit's `hex` fills a slice and can refuse it, which two digits never do.
+// By hand: the toolchain's crate `hex` fills a slice and can refuse it, which two digits never do.
 fn hex_digit(n: u8) -> u8
     requires { n < 16 }
     ensures { result ≡ digit n }

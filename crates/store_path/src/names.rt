@@ -42,7 +42,7 @@ fn base_parts<'a>(s: &'a [u8]) -> Option<Parts<'a>>
 }
 
 // The digits and the name of a store path; None of anything else.
-// By a slice pattern, which is this project's form for fixed first bytes (docs/DECISIONS.md): those, and the rest.
+// By a slice pattern, the fixed first bytes and the rest: this form was asked for (docs/DECISIONS.md, 'Forms that were asked for').
 pub fn take_apart<'a>(path: &'a [u8]) -> Option<Parts<'a>>
     ensures { MatchOption result (StorePath path.now → ⊥) (λ p. Apart path.now p.digits.now p.name.now) }
 {

@@ -1,5 +1,5 @@
 -- A file is accepted exactly where its text, what it rests on and its paths are right.
-use Rattle.std.proofs.Common.{◌≡◌, ℕ, [], None, sym, refl, ap, ◌∙◌, subst, arith, Ok, Err}
+use Rattle.std.proofs.Common.{◌≡◌, [], None, sym, refl, ap, ◌∙◌, subst, Ok, Err}
 use Rattle.aterm.specs.Files.{output, variable, derivation}
 use Rattle.aterm.specs.Grammar.{Tree, meaning}
 use Rattle.canonical.specs.Canonical.{CanonicalText}
@@ -26,7 +26,7 @@ use Rattle.verdict.proofs.Meant.{output_there, output_back, variable_there, vari
 use Rattle.verdict.proofs.Rows.{each, all_of}
 
 refused_not : (v : Verdict) (f : Fault) → v ≡ Ok tt → v ≡ Err f → ⊥
-refused_not v f a r = let z : ◌≡◌ {A = ℕ} 0 1 = cc in omega arith
+refused_not v f a r = cc
 
 -- ---- outputs and the environment, by the tree and by what it means
 

@@ -1,14 +1,9 @@
 -- Two texts are the same, or differ from one place on.
-use Rattle.std.proofs.Common.{◌≡◌, ℕ, suc, ◌⊎◌, List, [], ◌∷◌, ◌++◌, length, sym, refl, ap, ◌∙◌, inl, inr, arith}
+use Rattle.std.proofs.Common.{◌≡◌, ℕ, suc, ◌⊎◌, List, [], ◌∷◌, ◌++◌, length, sym, refl, ap, ◌∙◌, inl, inr}
 use Rattle.std.proofs.lemmas.Bool.{cases_eq}
 use Rattle.std.proofs.lemmas.List.{append_cancel_left}
 use Rattle.canonical.specs.Differences.{Parted, DifferAt}
-
-heads : {a b : ℕ} {r s : List ℕ} → a ∷ r ≡ b ∷ s → a ≡ b
-heads e = cc
-
-tails : {a b : ℕ} {r s : List ℕ} → a ∷ r ≡ b ∷ s → r ≡ s
-tails e = cc
+use Rattle.canonical.proofs.Alone.{heads, tails}
 
 pub differ? : (a b : List ℕ) → (a ≡ b) ⊎ ((place : ℕ) × DifferAt a b place)
 differ? [] [] = inl refl
@@ -35,16 +30,16 @@ differ? (x ∷ a) (y ∷ b) = elim (cases_eq x y) [
 
 not_parted : (a b : List ℕ) → a ≡ b → Parted a b → ⊥
 not_parted [] [] e n = n
-not_parted [] (y ∷ b) e n = let z : ◌≡◌ {A = ℕ} 0 1 = cc in omega arith
-not_parted (x ∷ a) [] e n = let z : ◌≡◌ {A = ℕ} 0 1 = cc in omega arith
+not_parted [] (y ∷ b) e n = cc
+not_parted (x ∷ a) [] e n = cc
 not_parted (x ∷ a) (y ∷ b) e n = n (heads e)
 
 pub differ_not : (a b : List ℕ) (place : ℕ) → DifferAt a b place → a ≡ b → ⊥
 differ_not a b place w e = not_parted w.rest w.other (append_cancel_left w.front w.rest w.other (sym w.one ∙ e ∙ w.two)) w.parted
 
 not_apart : (r o : List ℕ) (y : ℕ) (a b : List ℕ) → r ≡ y ∷ a → o ≡ y ∷ b → Parted r o → ⊥
-not_apart [] o y a b e k m = let z : ◌≡◌ {A = ℕ} 0 1 = cc in omega arith
-not_apart (x ∷ r) [] y a b e k m = let z : ◌≡◌ {A = ℕ} 0 1 = cc in omega arith
+not_apart [] o y a b e k m = cc
+not_apart (x ∷ r) [] y a b e k m = cc
 not_apart (x ∷ r) (u ∷ o) y a b e k m = m (heads e ∙ sym (heads k))
 
 -- what both fronts have in common ends at the same place

@@ -50,7 +50,7 @@ impl From<Fault> for Told {
     }
 }
 
-// What the verdict says; all 0 where the file is accepted.
+// What the verdict says; all 0 where the file is accepted. Public, the same as `Told::from`; no code here calls it.
 pub fn tell_verdict(verdict: Result<(), Fault>) -> Told
     ensures { result ≡ verdict_details verdict }
 {

@@ -6,7 +6,7 @@ ghost use Rattle.checker.specs.declared.state.State.TheVariants.{Pending as Wait
 use super::States;
 use crate::state::State;
 
-// A row is lent to be changed, as is this project's rule (docs/DECISIONS.md).
+// The row is lent, not written in place: this form was asked for (docs/DECISIONS.md, 'Forms that were asked for').
 fn change(row: &mut State, state: State)
     ensures { row.new ≡ state }
 {

@@ -25,7 +25,8 @@ impl HashRows {
         self.rows.as_slice()
     }
 
-    // The table with this row in the place of any with its hash; there is room for one more. For the crate above, which has at most 64 rows.
+    // The table with this row in the place of any with its hash; there is room for one more.
+    // Public; here `gather_from` alone calls it, for at most 64 rows.
     pub fn with(self, hash: Hash, row: usize) -> HashRows
         requires { length (held self) < 64 }
         ensures placed { Placed (held self) (row_of hash row) (held result) }
@@ -62,7 +63,7 @@ pub fn gather_from<I: Iterator<Item = HashRow> + Drop>(pairs: I) -> HashRows
     table
 }
 
-// The last pair of each hash. For the crate above, which has at most 64 pairs.
+// The last pair of each hash. Public; no code here calls it: right_paths gathers over an iterator, by `gather_from`.
 pub fn gather(pairs: &[HashRow]) -> HashRows
     requires { length pairs.now ≤ 64 }
     ensures { Gathered pairs.now (held result) }

@@ -1,6 +1,5 @@
-use Rattle.std.proofs.Common.{None, Some, true, false, arith, rules}
+use Rattle.std.proofs.Common.{None, Some, true, false, arith, rules, tests}
 use Rattle.std.proofs.lemmas.Iterator.{first_from_Range}
-use borrow.Author.Tests.{tests}
 use Rattle.image.proofs.questions.ask_each.Goals as goal
 
 pub slot-requires : goal.slot-requires

@@ -1,8 +1,7 @@
-use Rattle.std.proofs.Common.{◌≡◌, ℕ, ◌+◌, ◌-◌, ◌<◌, List, [], length, get_or, None, Some, sym, ap, ◌∙◌, subst, arith, rules}
+use Rattle.std.proofs.Common.{◌≡◌, ℕ, ◌+◌, ◌-◌, ◌<◌, List, [], length, get_or, None, Some, sym, ap, ◌∙◌, subst, arith, rules, tests}
 use Rattle.std.specs.List.{AllWithin, enumerate_from}
 use Rattle.std.proofs.lemmas.Iterator.{first_from_find}
 use Rattle.std.proofs.lemmas.List.FromFn.{length-enumerate_from, get_or-enumerate_from}
-use borrow.Author.Tests.{tests}
 use Rattle.hash_modulo.specs.Sets.{Bytes}
 use Rattle.image.specs.Files.{bytes_of, files_of}
 use Rattle.image.specs.InOrder.{pair, files_from}

@@ -1,6 +1,5 @@
-use Rattle.std.proofs.Common.{◌≡◌, [], Decides, subst, rules}
+use Rattle.std.proofs.Common.{◌≡◌, [], Decides, subst, rules, tests}
 use Rattle.std.proofs.lemmas.Iterator.{cases_from_any, YieldsList-from_slice}
-use borrow.Author.Tests.{tests}
 use Rattle.aterm.specs.Files.{output, in_output}
 use Rattle.aterm.specs.Grammar.{Tree, raw}
 use Rattle.hash_modulo.specs.Sets.{Bytes}

@@ -1,7 +1,6 @@
-use Rattle.std.proofs.Common.{[], true, false, refl, sym, subst, rules}
+use Rattle.std.proofs.Common.{[], true, false, refl, sym, subst, rules, tests}
 use Rattle.std.proofs.lemmas.Bool.Decides.{not_from_Decides}
 use Rattle.std.proofs.lemmas.Iterator.{cases_from_all, YieldsList-from_slice}
-use borrow.Author.Tests.{tests}
 use Rattle.aterm.specs.Files.{span}
 use Rattle.aterm.specs.Meaning.{cut}
 use Rattle.aterm.specs.Grammar.{string, raw}

@@ -9,7 +9,7 @@ use Rattle.aterm.proofs.part.RowsPart.rest.Given as given
 use Rattle.aterm.proofs.part.RowsPart.rest.Goals as goal
 use Rattle.aterm.proofs.part.RowsPart.rest.Goals.{After-row, then-len-gt0+in_ok-expect, else-len-gt0}
 
--- where the next row begins: at a comma where a row stands before it, else where the reader stands
+-- where the next row begins: after a comma where a row stands before it, else where the reader stands
 row_begins : (g : given.Over) (c : After-row g) → (c.if-len-gt0.reader.text.now ≡ c.args.reader.now.text.now) × Begins c.args.reader.now.text.now c.loop-rows.rows.len c.loop-rows.reader.at c.if-len-gt0.reader.at
 row_begins g c =
     let u = c.args.reader.now.text.now in

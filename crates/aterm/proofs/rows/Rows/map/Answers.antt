@@ -7,8 +7,8 @@ use Rattle.aterm.proofs.rows.Rows.map.Goals as goal
 
 pub loop-row-init : goal.loop-row-init
 loop-row-init g c =
-    let none = c.cut-changed.result in
-    (c.cut-changed.ensures, zip_none (λ (v w : Placed g.row.T.Denot). (w.place ≡ v.place) × given.F-post g c.args.change v.value w.value) (rows_of none) (ap (λ k. take k none.items) c.cut-changed.ensures))
+    let none = c.emptied-changed.result in
+    (c.emptied-changed.ensures, zip_none (λ (v w : Placed g.row.T.Denot). (w.place ≡ v.place) × given.F-post g c.args.change v.value w.value) (rows_of none) (ap (λ k. take k none.items) c.emptied-changed.ensures))
 
 pub loop-row-preserved : goal.loop-row-preserved
 loop-row-preserved g c =

@@ -1,6 +1,5 @@
-use Rattle.std.proofs.Common.{rules}
+use Rattle.std.proofs.Common.{rules, tests}
 use Rattle.std.proofs.lemmas.Iterator.{cases_from_any, YieldsList-from_slice}
-use borrow.Author.Tests.{tests}
 use Rattle.aterm.specs.Meaning.{meant_left}
 use Rattle.derivation.specs.Keys.{key_of}
 use Rattle.derivation.proofs.Meant.{span_meaning}

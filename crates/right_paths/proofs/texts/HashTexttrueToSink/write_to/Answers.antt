@@ -31,8 +31,8 @@ masked_text t v rows os es outputs whole p q =
 pub returns : goal.returns
 returns g c =
     let s = c.args.self.now in
-    let t = s.text.now in
+    let t = s.of.text.now in
     as_text
-    (masked_text t s.file.now (values (hash_input_value t) (rows_of s.inputs.now)) _ _ c.as_slice.result.now
+    (masked_text t s.of.file.now (values (hash_input_value t) (rows_of s.inputs.now)) _ _ c.as_slice.result.now
     c.as_slice.ensures (c.mask_outputs-outputs.ensures t) c.mask_environment-environment.ensures)
     c.write_fields.ensures

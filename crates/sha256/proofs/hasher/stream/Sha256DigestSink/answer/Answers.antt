@@ -11,5 +11,5 @@ returns c =
     let n = c.args.self.now.count in
     let long : length b.block ≡ 64 = search rules in
     let last = c.absorb-2.new.self in
-    let t = takes_then (tail_is n _ _ c.filler.ensures c.bits.ensures) c.absorb.ensures c.absorb-2.ensures in
+    let t = takes_then (tail_is n _ _ c.filler.ensures.bytes c.bits.ensures) c.absorb.ensures c.absorb-2.ensures in
     record { answers = answer_from b.words p last.words _ _ _ n (search rules) (search rules) (omega (arith, b.within, length-take-le b.filled b.block (omega (arith, b.within)))) (t.state (0 + length p)) (c.spell.ensures ∙ ap spelled c.words.ensures) }
