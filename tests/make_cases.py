@@ -5,6 +5,7 @@ import struct
 from pathlib import Path
 
 import reference
+from reading import grouped, listed, quoted
 
 root = Path(__file__).resolve().parent.parent
 Z = b"0" * 32
@@ -31,6 +32,24 @@ def patched(img, at, form, *values):
     out = bytearray(img)
     struct.pack_into(form, out, at, *values)
     return bytes(out)
+
+
+def derivation(outputs, inputs=(), sources=(), arguments=(), environment=()):
+    """Rows as they are given, in any order."""
+    fields = [
+        listed(grouped(map(quoted, row)) for row in outputs),
+        listed(grouped([quoted(p), listed(map(quoted, names))]) for p, names in inputs),
+        listed(map(quoted, sources)),
+        quoted(b"x86_64-linux"),
+        quoted(b"/bin/sh"),
+        listed(map(quoted, arguments)),
+        listed(grouped(map(quoted, row)) for row in environment),
+    ]
+    return b"Derive(" + b",".join(fields) + b")"
+
+
+def output(name=b"out", algorithm=b"", given=b""):
+    return [name, path(b"stated"), algorithm, given]
 
 
 two = image([(path(b"a.drv"), b"text a"), (path(b"b.drv"), b"text b")])
@@ -81,6 +100,25 @@ cases = {
     "text-one-block-of-padding": image([(path(b"a.drv"), b"x" * 56)]),
     "text-one-block": image([(path(b"a.drv"), b"x" * 64)]),
     "text-many-blocks": image([(path(b"a.drv"), b"xyz" * 1000)]),
+}
+plain = derivation([output()], environment=[[b"out", path(b"stated")], [b"a", b"1"]])
+some = [b"o%d" % i for i in range(15, 0, -1)] + [b"out"]
+cases |= {
+    "paths-one-output": image([(path(b"a.drv"), plain)]),
+    "paths-16-outputs": image([(path(b"a.drv"), derivation([output(n) for n in some], environment=[[n, b"v"] for n in some[3:9]]))]),
+    "paths-fixed-source": image([(path(b"a.drv"), derivation([output(b"out", b"r:sha256", b"0f" * 32)]))]),
+    "paths-fixed-flat": image([(path(b"a.drv"), derivation([output(b"out", b"sha256", b"0f" * 32)]))]),
+    "paths-fixed-md5": image([(path(b"a.drv"), derivation([output(b"out", b"r:md5", b"0f" * 16)]))]),
+    "paths-sources-turned": image([(path(b"a.drv"), derivation([output(b"dev"), output(b"bin")], sources=[path(b"t"), path(b"s")], arguments=[b"\"\\\n\r\t", b"b", b"a"]))]),
+    "paths-needless-escapes": image([(path(b"a.drv"), plain.replace(b"/bin/sh", b"/\\bin/sh").replace(b'"1"', b'"\n"'))]),
+    "paths-longest-name": image([(path(b"n" * 207 + b".drv"), plain)]),
+    "paths-only-without-inputs": image([
+        (path(b"a.drv"), plain),
+        (path(b"b.drv"), derivation([output()], [(path(b"a.drv"), [b"out"])])),
+        (path(b"c.drv"), plain[:-1]),
+        (path(b"d.drv"), plain),
+    ]),
+    "paths-ill-formed": image([(path(b"a.drv"), derivation([output(b"out", b"sha256", b"0f")]))]),
 }
 random.seed(180)
 for i in range(12):

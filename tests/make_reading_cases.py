@@ -300,10 +300,8 @@ def rewritten(data):
     """What is said of a text that reads: the SHA-256 of its canonical text, and where the text first differs from it."""
     wanted = reading.canonical(data)
     digest = hashlib.sha256(wanted).hexdigest()
-    if wanted == data:
-        return f"reads {digest} canonical"
-    same = next((i for i, (a, b) in enumerate(zip(data, wanted)) if a != b), min(len(data), len(wanted)))
-    return f"reads {digest} differs {same}"
+    place = reading.first_difference(data, wanted)
+    return f"reads {digest} canonical" if place is None else f"reads {digest} differs {place}"
 
 
 values = [b"", b"a", b"\\a", b"\\n", b"\n", b"\t", b"\\t", b"\r", b'\\"', b"\\\\", b"\xff\x00", b"plain text", b"(],)"]

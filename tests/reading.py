@@ -225,3 +225,10 @@ def canonical(text):
         listed(grouped(map(quoted, row)) for row in environment),
     ]
     return b"Derive(" + b",".join(parts) + b")"
+
+
+def first_difference(one, two):
+    """The number of bytes at the front in which two texts agree; None where they are the same."""
+    if one == two:
+        return None
+    return next((i for i, (a, b) in enumerate(zip(one, two)) if a != b), min(len(one), len(two)))

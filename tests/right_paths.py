@@ -1,9 +1,8 @@
 #!/usr/bin/env python3
 """Works out hashes modulo inputs and right paths as docs/FORMATS.md defines them, and compares with the paths that the files state.
 
-right_paths.py FOLDER...: each folder is a set of derivations made by Nix, each file named as its store path ends. Not a part of the gate. Files made by Nix 2.8 differ where inputs of equal hash are taken by different names: docs/DECISIONS.md says why.
+right_paths.py FOLDER...: each folder is a set of derivations made by Nix, each file named as its store path ends. Files made by Nix 2.8 differ where inputs of equal hash are taken by different names: docs/DECISIONS.md says why. make_right_path_cases.py and reference.py import what is defined here.
 """
-import functools
 import hashlib
 import sys
 from pathlib import Path
@@ -36,8 +35,12 @@ def fold(bs):
     return bytes(out)
 
 
-def made_path(kind, hashed, name):
-    return b"/nix/store/" + base32(fold(digest(kind + b":sha256:" + hashed + b":/nix/store:" + name))) + b"-" + name
+def path_string(kind, hashed, name):
+    return kind + b":sha256:" + hashed + b":/nix/store:" + name
+
+
+def made_path(string, name):
+    return b"/nix/store/" + base32(fold(digest(string))) + b"-" + name
 
 
 class File:
@@ -67,47 +70,93 @@ class File:
         return b"Derive(" + b",".join(parts) + b")"
 
 
+class Worked:
+    """What is digested for the file at a path, where `hashes` has the hashes of its inputs, and what comes of it."""
+
+    def __init__(self, path, file, hashes):
+        name = path[44:]
+        self.strings = []
+        references = sorted({p for p, _ in file.inputs} | set(file.sources))
+        kind = b"text" + b"".join(b":" + r for r in references)
+        self.own = self.located(kind, to_hex(self.digested(file.text())), name)
+        if file.fixed:
+            self.work_fixed(file.outputs[0], name[:-4], file)
+        else:
+            rows = sorted({to_hex(hashes[p]): names for p, names in file.inputs}.items())
+            self.work_text(file, rows, name[:-4])
+
+    def digested(self, string):
+        self.strings.append(string)
+        return digest(string)
+
+    def located(self, kind, hashed, name):
+        string = path_string(kind, hashed, name)
+        self.strings.append(string)
+        return made_path(string, name)
+
+    def work_fixed(self, only, stem, file):
+        _, stated, algorithm, given = only
+        inner = b"fixed:out:" + algorithm + b":" + given + b":"
+        self.hash, self.masked = self.digested(inner + stated), None
+        if algorithm == b"r:sha256":
+            self.outputs = [self.located(b"source", given, stem)]
+        else:
+            self.outputs = [self.located(b"output:out", to_hex(self.digested(inner)), stem)]
+
+    def work_text(self, file, rows, stem):
+        self.hash = self.digested(file.text(inputs=rows))
+        names = {r[0] for r in file.outputs}
+        outputs = [[n, b"", algorithm, given] for n, _, algorithm, given in file.outputs]
+        environment = [[n, b"" if n in names else v] for n, v in file.environment]
+        self.masked = self.digested(file.text(outputs, rows, environment))
+        self.outputs = [
+            self.located(b"output:" + n, to_hex(self.masked), stem if n == b"out" else stem + b"-" + n) for n, _, _, _ in file.outputs
+        ]
+
+
+def in_order(files):
+    """The paths of a set in an order in which inputs come before the files that use them."""
+    order = []
+
+    def take(path):
+        if path not in order:
+            for p, _ in files[path].inputs:
+                take(p)
+            order.append(path)
+
+    for path in sorted(files):
+        take(path)
+    return order
+
+
+def work_out(files):
+    """What is worked out for each file of a set, by its path."""
+    worked, hashes = {}, {}
+    for path in in_order(files):
+        worked[path] = Worked(path, files[path], hashes)
+        hashes[path] = worked[path].hash
+    return worked
+
+
 def wrong_paths(files):
     """How many files of the set state a path that is not the right one."""
-
-    def rows(file):
-        return sorted({to_hex(hash_of(p)): names for p, names in file.inputs}.items())
-
-    @functools.lru_cache(None)
-    def hash_of(path):
-        file = files[path]
-        if file.fixed:
-            _, stated, algorithm, given = file.outputs[0]
-            return digest(b"fixed:out:" + algorithm + b":" + given + b":" + stated)
-        return digest(file.text(inputs=rows(file)))
-
-    def output_path(file, stem, row):
-        output, _, algorithm, given = row
-        name = stem if output == b"out" else stem + b"-" + output
-        if file.fixed and algorithm == b"r:sha256":
-            return made_path(b"source", given, name)
-        if file.fixed:
-            return made_path(b"output:out", to_hex(digest(b"fixed:out:" + algorithm + b":" + given + b":")), name)
-        names = {r[0] for r in file.outputs}
-        masked = file.text([[r[0], b"", r[2], r[3]] for r in file.outputs], rows(file), [[n, b"" if n in names else v] for n, v in file.environment])
-        return made_path(b"output:" + output, to_hex(digest(masked)), name)
-
     wrong = 0
-    for path, file in files.items():
-        name = path[44:]
-        references = sorted({p for p, _ in file.inputs} | set(file.sources))
-        own = made_path(b"text" + b"".join(b":" + r for r in references), to_hex(digest(file.text())), name)
-        right = own == path and all(output_path(file, name[:-4], row) == row[1] for row in file.outputs)
-        if not right:
+    for path, worked in sorted(work_out(files).items()):
+        if worked.own != path or worked.outputs != [row[1] for row in files[path].outputs]:
             wrong += 1
             print("wrong:", path.decode())
     return wrong
 
 
-count = failed = 0
-for folder in sys.argv[1:]:
-    files = {b"/nix/store/" + f.name.encode(): File(f.read_bytes()) for f in sorted(Path(folder).glob("*.drv"))}
-    count += len(files)
-    failed += wrong_paths(files)
-print(f"{count} files, {failed} with a path other than the right one")
-sys.exit(1 if failed else 0)
+def main():
+    count = failed = 0
+    for folder in sys.argv[1:]:
+        files = {b"/nix/store/" + f.name.encode(): File(f.read_bytes()) for f in sorted(Path(folder).glob("*.drv"))}
+        count += len(files)
+        failed += wrong_paths(files)
+    print(f"{count} files, {failed} with a path other than the right one")
+    sys.exit(1 if failed else 0)
+
+
+if __name__ == "__main__":
+    main()

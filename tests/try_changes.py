@@ -21,10 +21,8 @@ def said(path, text):
         return " ".join(map(str, found))
     wanted = reading.canonical(text)
     digest = hashlib.sha256(wanted).hexdigest()
-    if wanted == text:
-        return f"reads {digest} canonical"
-    same = next((i for i, (a, b) in enumerate(zip(text, wanted)) if a != b), min(len(text), len(wanted)))
-    return f"reads {digest} differs {same}"
+    same = reading.first_difference(text, wanted)
+    return f"reads {digest} canonical" if same is None else f"reads {digest} differs {same}"
 
 
 def changes(text):

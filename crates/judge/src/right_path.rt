@@ -1,20 +1,18 @@
-// The right path of an output, by its digits.
-ghost use Rattle.derivation.specs.Questions.{output_name};
-ghost use Rattle.right_paths.specs.Views.{said_by};
+// A right path, by its digits.
 ghost use Rattle.right_paths.specs.Worked.{full_store_path};
 
-use right_paths::{Digits, OutputName};
+use right_paths::Digits;
 use sink::{Full, Sink, ToSink};
 
-// The store path with these digits and this name.
+// The store path with these digits and this name: the file's own, or that of an output.
 #[derive(Clone, Copy)]
-pub struct RightPath<'a> {
+pub struct RightPath<N> {
     pub digits: Digits,
-    pub name: OutputName<'a>,
+    pub name: N,
 }
 
-impl<'a> ToSink for RightPath<'a> {
-    ghost bytes = { λ s. full_store_path s.digits.bytes (output_name s.name.path.now (said_by s.name.out)) };
+impl<N: ToSink> ToSink for RightPath<N> {
+    ghost bytes = { λ s. full_store_path s.digits.bytes (N.ToSink.bytes s.name) };
 
     fn write_to<S: Sink>(&self, sink: &mut S) -> Result<(), Full> {
         sink.write(b"/nix/store/")?;

@@ -1,2 +1,4 @@
+pub mod Alone
 pub mod Lines
 pub mod Order
+pub mod PathLines

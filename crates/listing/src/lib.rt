@@ -6,6 +6,8 @@ ghost use Rattle.listing.specs.Listing.{InputOpened, Listing, Written};
 
 mod files;
 mod line;
+mod path_line;
+mod right;
 
 use files::write_files;
 use image::{Image, Refusal};
@@ -25,7 +27,7 @@ fn open_input(bytes: &[u8]) -> Result<Image<'_>, Refusal>
     Image::open(bytes)
 }
 
-// The whole listing of what was read: the line of its refusal, or a line a file and their number.
+// The whole listing of what was read: the line of its refusal, or the lines of each file and their number.
 // `out` and `digest` stay two parameters, here and below: the caller lends two sinks of two types, and a struct would have to be made of them here, for `write_files` and `write_file` alone.
 pub fn list<D: DigestSink, S: Sink>(out: &mut S, digest: &mut D, bytes: &[u8]) -> Result<(), Full>
     ensures { Listing S.Sink.step (S.Sink.held out.old) (digest_by D.Sink.step D.DigestSink.start D.DigestSink.answered) bytes.now result (S.Sink.held out.new) }

@@ -2,6 +2,7 @@ pub mod Aligning
 pub mod Carrying
 pub mod Counts
 pub mod Fixing
+pub mod Given
 pub mod HexOrder
 pub mod InputNames
 pub mod Masking

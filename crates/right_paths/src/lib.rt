@@ -26,5 +26,6 @@ pub use hash_input::HashInput;
 pub use hashes::{Counted, Digits, FileHashes};
 pub use inputs::hash_inputs;
 pub use names::{OutputName, name_of};
+pub use parts::Word;
 pub use said::Said;
 pub use texts::MaskedText;

@@ -10,5 +10,5 @@ returns g c =
     let D = digest g.D.Sink.step g.D.DigestSink.start g.D.DigestSink.answered in
     let l = c.in_ok-list.ensures in
     let w = c.new-writer.ensures in
-    let e = text_from_new c.args.out.now _ _ _ _ c.list.new.out.at (listed D c.args.bytes.now l.told l.answer) (ap (λ b. b.now) w.0) (ap (λ b. b.ghost_name) w.0) w.1 l.writes.told c.count.ensures _ (search rules) in
-    (l.answer, l.told, l.answered, l.judged, e.0, e.1)
+    let e = text_from_new c.args.out.now _ _ _ _ c.list.new.out.at (listed D c.args.bytes.now l.shown l.answer) (ap (λ b. b.now) w.0) (ap (λ b. b.ghost_name) w.0) w.1 l.writes.told c.count.ensures _ (search rules) in
+    (l.answer, l.shown, l.answered, l.judged, e.0, e.1)

@@ -4,7 +4,7 @@ use Rattle.image.specs.InOrder.{files_left}
 use Rattle.sink.specs.Digest.{digest}
 use Rattle.sink.proofs.Writing.{as_text}
 use Rattle.listing.specs.Listing.{last_line}
-use Rattle.listing.proofs.Lines.{along_start, along_next, along_stop, along_short, along_few, along_end}
+use Rattle.listing.proofs.Lines.{along_start, along_next, along_stop, along_named, along_few, along_end}
 use Rattle.listing.proofs.files.write_files.Goals as goal
 
 pub loop-k-init : goal.loop-k-init
@@ -16,7 +16,7 @@ loop-k-init g c =
     ((tt, tt, inl (along_few a (omega (arith, c.count-count.ensures.few, c.count-count.ensures.value)))), tt, a)
 
 pub write_file-requires : goal.write_file-requires
-write_file-requires g c = along_short c.loop-k.invariant.2 c.in-Some.ensures.steps.0 c.requires
+write_file-requires g c = along_named c.loop-k.invariant.2 c.in-Some.ensures.steps.0 c.requires
 
 pub loop-k-preserved : goal.loop-k-preserved
 loop-k-preserved g c =
