@@ -18,22 +18,22 @@ use Rattle.checker.specs.declared.state.State.TheVariants.{Pending, Taken, Settl
 
 -- ---- states
 
-clash : ◌≡◌ {A = ℕ} 0 1 → ⊥
+pub clash : ◌≡◌ {A = ℕ} 0 1 → ⊥
 clash e = omega arith
 
-not_settled : (x : State) (s : Settlement) → x ≡ Pending → x ≡ Settled s → ⊥
+pub not_settled : (x : State) (s : Settlement) → x ≡ Pending → x ≡ Settled s → ⊥
 not_settled x s a b = clash (cc)
 
-taken_settled : (x : State) (s : Settlement) → x ≡ Taken → x ≡ Settled s → ⊥
+pub taken_settled : (x : State) (s : Settlement) → x ≡ Taken → x ≡ Settled s → ⊥
 taken_settled x s a b = clash (cc)
 
-not_taken : (x : State) → x ≡ Pending → x ≡ Taken → ⊥
+pub not_taken : (x : State) → x ≡ Pending → x ≡ Taken → ⊥
 not_taken x a b = clash (cc)
 
-same_settlement : (x : State) (s t : Settlement) → x ≡ Settled s → x ≡ Settled t → s ≡ t
+pub same_settlement : (x : State) (s t : Settlement) → x ≡ Settled s → x ≡ Settled t → s ≡ t
 same_settlement x s t a b = cc
 
-no_hash : (o : Option Hashes) (h : Hashes) → o ≡ None → o ≡ Some h → ⊥
+pub no_hash : (o : Option Hashes) (h : Hashes) → o ≡ None → o ≡ Some h → ⊥
 no_hash o h a b = clash (cc)
 
 same_hashes : (o : Option Hashes) (h k : Hashes) → o ≡ Some h → o ≡ Some k → h ≡ k

@@ -3,6 +3,7 @@
 use Rattle.std.specs.Prelude.{◌≡◌, ℕ, zero, suc, ◌+◌, ◌<◌, ◌≤◌, ◌⊎◌, List, [], ◌∷◌, ◌++◌, length, drop, Some, None, Ok, Err, Option, Result, slice_index_or}
 use Rattle.canonical.specs.Meanings.{Meaning, canonical}
 use Rattle.derivation.specs.declared.told.Told.{Told}
+use Rattle.file_meaning.specs.Reads.{Reads}
 use Rattle.hash_modulo.specs.Hashes.{Digest, Fixed, Hashed}
 use Rattle.hash_modulo.specs.Paths.{References, MaskedString}
 use Rattle.hash_modulo.specs.Sets.{Bytes, Files, Means, Readable, Rests, Hashable}
@@ -44,10 +45,18 @@ pub record Put (bs out : List ℕ) (n : ℕ) (after : List ℕ) : Type 0 where
   pub count : n ≡ length bs
   pub is : after ≡ bs ++ drop n out
 
+-- bytes are put, or the buffer is too short for them and what it was
+abbrev pub Written : List ℕ → List ℕ → Result ℕ CallRefusal → List ℕ → Type 0
+Written bs out (Ok n) after = Put bs out n after
+Written bs out (Err e) after = Ask (length bs ≤ length out) Short Done e × (after ≡ out)
+
 -- ---- take
 
 abbrev pub NoneTaken : View → Type 0
 NoneTaken v = (k : ℕ) → TakenAt v k → ⊥
+
+abbrev pub SomeTaken : View → Type 0
+SomeTaken v = (k : ℕ) × TakenAt v k
 
 abbrev pub SomePending : View → Type 0
 SomePending v = (k : ℕ) × PendingAt v k
@@ -56,6 +65,11 @@ SomePending v = (k : ℕ) × PendingAt v k
 pub data Chosen (v : View) (k : ℕ) : Type 0 where
   first_ready : PendingAt v k → ReadyFile v k → ((j : ℕ) → j < k → PendingAt v j → ReadyFile v j → ⊥) → Chosen v k
   first_pending : PendingAt v k → ((j : ℕ) → PendingAt v j → ReadyFile v j → ⊥) → ((j : ℕ) → j < k → PendingAt v j → ⊥) → Chosen v k
+
+-- what is chosen, or none where none is pending
+abbrev pub Choice : View → Option ℕ → Type 0
+Choice v None = SomePending v → ⊥
+Choice v (Some k) = Chosen v k
 
 abbrev pub TakeRefused : View → CallRefusal → Type 0
 TakeRefused v = Ask (Open v) NotOpened (Ask (NoneTaken v) VisitOut (Ask (SomePending v) NonePending Done))
@@ -145,6 +159,17 @@ abbrev pub Rewrites : View → ℕ → List ℕ → Result ℕ CallRefusal → L
 Rewrites v k out (Ok n) after = (m : Meaning) × Open v × Exists v k × Means (files v) (path_at v k) m × Put (canonical m) out n after
 Rewrites v k out (Err e) after =
     Ask (Open v) NotOpened (Ask (Exists v k) NoFile (Ask (Readable (files v) (path_at v k)) NotRead (Ask (Rewritable v k (length out)) Short Done))) e × (after ≡ out)
+
+-- the same of one file by its path and text, whatever set has it
+abbrev pub ReadsTo : Bytes → Bytes → Type 0
+ReadsTo path text = (m : Meaning) × Reads path text m
+
+abbrev pub FitsAll : Bytes → Bytes → ℕ → Type 0
+FitsAll path text room = (m : Meaning) → Reads path text m → length (canonical m) ≤ room
+
+abbrev pub FileRewritten : Bytes → Bytes → List ℕ → Result ℕ CallRefusal → List ℕ → Type 0
+FileRewritten path text out (Ok n) after = (m : Meaning) × Reads path text m × Put (canonical m) out n after
+FileRewritten path text out (Err e) after = Ask (ReadsTo path text) NotRead (Ask (FitsAll path text (length out)) Short Done) e × (after ≡ out)
 
 -- ---- path
 

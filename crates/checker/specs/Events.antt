@@ -19,17 +19,41 @@ part w buffer = take w.size (drop w.from buffer)
 abbrev pub patched : Window → List ℕ → List ℕ → List ℕ
 patched w buffer out = take w.from buffer ++ (out ++ drop (w.from + w.size) buffer)
 
--- a call with its arguments and its answer; a settle or a put back offers a visit to a file
+-- a call with its arguments and its answer; a settle or a put back offers a visit to a file, and a call that writes comes with what it left
+-- in its part of the buffer
 pub data Event : Type 0 where
   took : Result ℕ CallRefusal → Event
   settled : (k : ℕ) → Result ℕ CallRefusal → Event
   returned : (k : ℕ) → Result (Unit {0}) CallRefusal → Event
   told : (k : ℕ) → Result (Option Verdict) CallRefusal → Event
-  located : (k j : ℕ) → Window → Result ℕ CallRefusal → Event
-  rewritten : (k : ℕ) → Window → Result ℕ CallRefusal → Event
+  located : (k j : ℕ) → Window → (out : List ℕ) → Result ℕ CallRefusal → Event
+  rewritten : (k : ℕ) → Window → (out : List ℕ) → Result ℕ CallRefusal → Event
   circled : Result ℕ CallRefusal → Event
-  lined : (k : ℕ) → Window → Result ℕ CallRefusal → Event
-  tailed : Window → Result ℕ CallRefusal → Event
+  lined : (k : ℕ) → Window → (out : List ℕ) → Result ℕ CallRefusal → Event
+  tailed : Window → (out : List ℕ) → Result ℕ CallRefusal → Event
+
+-- a call with its arguments and without its answer
+pub data Request : Type 0 where
+  taking : Request
+  settling : (k : ℕ) → Request
+  returning : (k : ℕ) → Request
+  telling : (k : ℕ) → Request
+  locating : (k j : ℕ) → Window → Request
+  rewriting : (k : ℕ) → Window → Request
+  circling : Request
+  lining : (k : ℕ) → Window → Request
+  tailing : Window → Request
+
+abbrev pub asked : Event → Request
+asked (took r) = taking
+asked (settled k r) = settling k
+asked (returned k r) = returning k
+asked (told k r) = telling k
+asked (located k j w out r) = locating k j w
+asked (rewritten k w out r) = rewriting k w
+asked (circled r) = circling
+asked (lined k w out r) = lining k w
+asked (tailed w out r) = tailing w
 
 -- the checker, the sink and the buffer between two calls
 pub record Stage : Type 0 where
@@ -55,12 +79,12 @@ Happens kind s (took r) t = Takes s.view r t.view × Moves s t.view t
 Happens kind s (settled k r) t = Settles kind s.view k s.sink r t.view t.sink × (t.buffer ≡ s.buffer)
 Happens kind s (returned k r) t = PutsBack s.view k r t.view × Moves s t.view t
 Happens kind s (told k r) t = Tells s.view k r × (t ≡ s)
-Happens kind s (located k j w r) t =
-    (out : List ℕ) × Paths kind s.view k j (part w s.buffer) s.sink r out t.sink × (t.view ≡ s.view) × (t.buffer ≡ patched w s.buffer out)
-Happens kind s (rewritten k w r) t = (out : List ℕ) × Rewrites s.view k (part w s.buffer) r out × Writes s w out t
+Happens kind s (located k j w out r) t =
+    Paths kind s.view k j (part w s.buffer) s.sink r out t.sink × (t.view ≡ s.view) × (t.buffer ≡ patched w s.buffer out)
+Happens kind s (rewritten k w out r) t = Rewrites s.view k (part w s.buffer) r out × Writes s w out t
 Happens kind s (circled r) t = Circles s.view r × (t ≡ s)
-Happens kind s (lined k w r) t = (out : List ℕ) × Lines s.view k (part w s.buffer) r out × Writes s w out t
-Happens kind s (tailed w r) t = (out : List ℕ) × Tails s.view (part w s.buffer) r out × Writes s w out t
+Happens kind s (lined k w out r) t = Lines s.view k (part w s.buffer) r out × Writes s w out t
+Happens kind s (tailed w out r) t = Tails s.view (part w s.buffer) r out × Writes s w out t
 
 -- a list of calls leads from one stage to another
 abbrev pub Runs : Kind → Stage → List Event → Stage → Type 0

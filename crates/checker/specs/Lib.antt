@@ -2,8 +2,13 @@ pub mod Refusals
 pub mod Rows
 pub mod Standings
 pub mod Views
+pub mod Ways
 pub mod Calls
 pub mod Events
+pub mod Locating
+pub mod Opened
 pub mod Seen
+pub mod Asked
+pub mod Settling
 pub mod Soundness
 pub mod Theorem

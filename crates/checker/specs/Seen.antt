@@ -1,11 +1,11 @@
 -- What the code's checker stands for, and what is kept right in it whatever the digest.
 -- Source: this project's own rule (docs/CALLS.md, "Calls").
-use Rattle.std.specs.Prelude.{◌≡◌, ℕ, true, false, [], ◌∷◌, Some, None, Option, Ok, Err, Result}
+use Rattle.std.specs.Prelude.{◌≡◌, ℕ, Bool, true, false, [], ◌∷◌, Some, None, Option, Ok, Err, Result, Decides}
 use Rattle.image.specs.Files.{bytes_of, files_of}
 use Rattle.image.specs.Opening.{Opens}
 use Rattle.links.specs.Linked.{AllLinked}
 use Rattle.checker.specs.Rows.{row_at}
-use Rattle.checker.specs.Views.{View}
+use Rattle.checker.specs.Views.{View, ReadyAt}
 use Rattle.checker.specs.declared.checker.Checker.{Checker}
 use Rattle.checker.specs.declared.checker.OpenSet.{OpenSet}
 use Rattle.checker.specs.declared.checker.Visit.{Visit}
@@ -34,6 +34,10 @@ KeptIn (Some s) = Opens (bytes_of s.image) (files_of s.image) × AllLinked (byte
 
 abbrev pub Kept : Checker → Type 0
 Kept c = KeptIn c.opened
+
+-- r says whether the file k of a set that is kept right is pending and ready
+pub record SaysReady (s : OpenSet) (k : ℕ) (r : Bool) : Type 0 where
+  pub says : KeptIn (Some s) → Decides r (ReadyAt (view_in s) k)
 
 -- the set and what is kept of it stay
 abbrev pub StaysIn : Option OpenSet → Option OpenSet → Type 0

@@ -1,6 +1,6 @@
 -- How the files that a file's input rows name stand, by what is kept of the rows and by the states of the files.
 -- Source: this project's own rule (docs/CALLS.md, "Calls").
-use Rattle.std.specs.Prelude.{◌≡◌, ℕ, ◌<◌, cond, Some, None, Option, ◌≢◌, slice_index_or}
+use Rattle.std.specs.Prelude.{◌≡◌, ℕ, ◌<◌, ◌⊎◌, cond, Some, None, Option, ◌≢◌, slice_index_or}
 use Rattle.links.specs.declared.link.Link.{Link}
 use Rattle.links.specs.declared.link.Links.{Links}
 use Rattle.checker.specs.declared.standing.Standing.{Standing}
@@ -23,3 +23,19 @@ abbrev pub FirstLink : (ℕ → State) → Links → Standing → Option ℕ →
 FirstLink row l wanted None = (i : ℕ) → i < l.count → standing_in row (slice_index_or l.rows i None) ≢ wanted
 FirstLink row l wanted (Some i) =
     (i < l.count) × (standing_in row (slice_index_or l.rows i None) ≡ wanted) × ((j : ℕ) → j < i → standing_in row (slice_index_or l.rows j None) ≢ wanted)
+
+-- the file of some row stands so
+abbrev pub SomeLink : (ℕ → State) → Links → Standing → Type 0
+SomeLink row l wanted = (i : ℕ) × (i < l.count) × (standing_in row (slice_index_or l.rows i None) ≡ wanted)
+
+-- and the file of every row
+abbrev pub EveryLink : (ℕ → State) → Links → Standing → Type 0
+EveryLink row l wanted = (i : ℕ) → i < l.count → standing_in row (slice_index_or l.rows i None) ≡ wanted
+
+-- some row's file is absent, does not own an output that is wanted, or is settled without a hash
+abbrev pub LinksFaulty : (ℕ → State) → Links → Type 0
+LinksFaulty row l = SomeLink row l Absent ⊎ (SomeLink row l Unowned ⊎ SomeLink row l Unhashed)
+
+-- that, or every row's file is settled with a hash
+abbrev pub LinksReady : (ℕ → State) → Links → Type 0
+LinksReady row l = LinksFaulty row l ⊎ EveryLink row l Hashed

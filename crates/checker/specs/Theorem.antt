@@ -1,25 +1,27 @@
 -- What holds of every list of calls from a newly opened checker on, for every kind of digest sink and every image that opens.
 -- Source: this project's own rule (docs/PROMISES.md, "Runs").
-use Rattle.std.specs.Prelude.{◌≡◌, ℕ, ◌+◌, ◌%◌, ◌^◌, ◌<◌, ◌≤◌, true, ◌⊎◌, List, [], ◌∷◌, length, take, Some, None, Ok, Err, Option, Result}
-use Rattle.std.specs.List.{AllByRecursion}
+use Rattle.std.specs.Prelude.{◌≡◌, ℕ, suc, ◌+◌, ◌%◌, ◌^◌, ◌<◌, ◌≤◌, true, ◌⊎◌, List, [], ◌∷◌, ◌++◌, length, map, take, Some, None, Ok, Err, Option, Result}
 use Rattle.canonical.specs.Meanings.{Meaning, canonical}
 use Rattle.canonical.specs.Order.{Member}
-use Rattle.hash_modulo.specs.Laws.{Iff}
-use Rattle.hash_modulo.specs.Sets.{Bytes, Files, Means, Readable, Hashable}
+use Rattle.hash_modulo.specs.Hashes.{Hashed}
+use Rattle.hash_modulo.specs.Laws.{Iff, Wide}
+use Rattle.hash_modulo.specs.Sets.{Bytes, Files, Means, Readable, Rests, Hashable}
 use Rattle.hash_modulo.specs.Strings.{all_lengths, Digested, RightPath}
 use Rattle.image.specs.Layout.{file_path, file_text}
 use Rattle.image.specs.Opening.{Opens}
 use Rattle.links.specs.Sets.{set_of}
+use Rattle.report.specs.Texts.{line_text, tail_text}
 use Rattle.sink.specs.Write as sinks
 use Rattle.verdict.specs.Judged.{Judged}
 use Rattle.verdict.specs.Laws.{Sound, BothUnhashed}
 use Rattle.verdict.specs.declared.fault.Fault.TheVariants.{NotCanonical}
 use Rattle.verdict.specs.Verdicts.{Verdict}
-use Rattle.checker.specs.Calls.{Kind, D, Takes, Settles, PutsBack, Tells, Lines, Tails, Rewrites, Paths, Circles}
-use Rattle.checker.specs.Events.{Event, took, settled, returned, told, located, rewritten, circled, lined, tailed, Stage, Runs}
-use Rattle.checker.specs.Views.{View, fresh, files, path_at, Exists, TakenAt}
+use Rattle.checker.specs.Calls.{Kind, D, MaskedHash, Takes, Settles, PutsBack, Tells, Lines, Tails, Rewrites, Paths, Circles, shown}
+use Rattle.checker.specs.Events.{Event, took, settled, returned, told, located, rewritten, circled, lined, tailed, Request, asked, Stage, Happens, Runs}
+use Rattle.checker.specs.Soundness.{SoundView}
+use Rattle.checker.specs.Views.{View, fresh, files, path_at, Exists, TakenAt, HashedAt}
 use Rattle.checker.specs.declared.refused.CallRefusal.{CallRefusal}
-use Rattle.checker.specs.declared.refused.CallRefusal.TheVariants.{NotRead}
+use Rattle.checker.specs.declared.refused.CallRefusal.TheVariants.{NonePending, NotRead}
 use Rattle.checker.specs.declared.state.Hashes.{Hashes}
 use Rattle.checker.specs.declared.state.Settlement.{Settlement}
 use Rattle.checker.specs.declared.state.State.{State}
@@ -37,24 +39,7 @@ pub data CountRight (kind : Kind) (set : Files) (p : Bytes) (n : ℕ) : Type 0 w
   hashed : (ss : List Bytes) → Digested set (D kind) p ss → n ≡ all_lengths ss → CountRight kind set p n
   unhashed : (Hashable set p → ⊥) → n ≡ 0 → CountRight kind set p n
 
--- what an answer says of the files of an image with n files, in the terms of the definition
-abbrev pub EventRight : Kind → Bytes → ℕ → Event → Type 0
-EventRight kind img n (took r) = Unit {0}
-EventRight kind img n (settled k (Ok count)) = (1 ≤ k) × (k ≤ n) × CountRight kind (set_of img n) (file_path img k) count
-EventRight kind img n (settled k (Err e)) = Unit {0}
-EventRight kind img n (returned k r) = Unit {0}
-EventRight kind img n (told k (Ok (Some w))) = VerdictRight kind (set_of img n) (file_path img k) w
-EventRight kind img n (told k (Ok None)) = Unit {0}
-EventRight kind img n (told k (Err e)) = Unit {0}
-EventRight kind img n (located k j w (Ok count)) = (q : Bytes) × RightPath (set_of img n) (D kind) (file_path img k) j q × (count ≡ length q)
-EventRight kind img n (located k j w (Err e)) = Unit {0}
-EventRight kind img n (rewritten k w (Ok count)) = (m : Meaning) × Means (set_of img n) (file_path img k) m × (count ≡ length (canonical m))
-EventRight kind img n (rewritten k w (Err e)) = Unit {0}
-EventRight kind img n (circled r) = Unit {0}
-EventRight kind img n (lined k w r) = Unit {0}
-EventRight kind img n (tailed w r) = Unit {0}
-
--- ---- counts
+-- ---- settles
 
 -- the files that were settled, in the order of their settles, and the counts of those settles added up
 abbrev pub settles : List Event → List ℕ
@@ -64,11 +49,11 @@ settles (settled k (Ok n) ∷ es) = k ∷ settles es
 settles (settled k (Err e) ∷ es) = settles es
 settles (returned k r ∷ es) = settles es
 settles (told k r ∷ es) = settles es
-settles (located k j w r ∷ es) = settles es
-settles (rewritten k w r ∷ es) = settles es
+settles (located k j w out r ∷ es) = settles es
+settles (rewritten k w out r ∷ es) = settles es
 settles (circled r ∷ es) = settles es
-settles (lined k w r ∷ es) = settles es
-settles (tailed w r ∷ es) = settles es
+settles (lined k w out r ∷ es) = settles es
+settles (tailed w out r ∷ es) = settles es
 
 abbrev pub counted : List Event → ℕ
 counted [] = 0
@@ -77,11 +62,73 @@ counted (settled k (Ok n) ∷ es) = n + counted es
 counted (settled k (Err e) ∷ es) = counted es
 counted (returned k r ∷ es) = counted es
 counted (told k r ∷ es) = counted es
-counted (located k j w r ∷ es) = counted es
-counted (rewritten k w r ∷ es) = counted es
+counted (located k j w out r ∷ es) = counted es
+counted (rewritten k w out r ∷ es) = counted es
 counted (circled r ∷ es) = counted es
-counted (lined k w r ∷ es) = counted es
-counted (tailed w r ∷ es) = counted es
+counted (lined k w out r ∷ es) = counted es
+counted (tailed w out r ∷ es) = counted es
+
+-- ---- answers
+
+-- there is a file k
+abbrev pub FileOf : ℕ → ℕ → Type 0
+FileOf n k = (1 ≤ k) × (k ≤ n)
+
+-- what is told of the file k after these calls: nothing before it is settled, and a right verdict from then on
+abbrev pub ToldRight : Kind → Bytes → ℕ → List Event → ℕ → Option Verdict → Type 0
+ToldRight kind img n before k None = Member k (settles before) → ⊥
+ToldRight kind img n before k (Some w) = Member k (settles before) × VerdictRight kind (set_of img n) (file_path img k) w
+
+-- the call left the text at the start of its part of the buffer, and answered its length
+abbrev pub Wrote : List ℕ → List ℕ → ℕ → Type 0
+Wrote text out count = (count ≡ length text) × (take count out ≡ text)
+
+-- the file k is settled by these calls, and the three things hold by which a file is accepted
+abbrev pub AcceptedBy : Kind → Bytes → ℕ → List Event → ℕ → Type 0
+AcceptedBy kind img n before k = Member k (settles before) × Sound (set_of img n) (D kind) (file_path img k)
+
+-- of the first m files, a are accepted by then
+pub data HowMany (kind : Kind) (img : Bytes) (n : ℕ) (before : List Event) : (m a : ℕ) → Type 0 where
+  no_files : HowMany kind img n before 0 0
+  one_more : {m a : ℕ} → AcceptedBy kind img n before (suc m) → HowMany kind img n before m a → HowMany kind img n before (suc m) (suc a)
+  no_more : {m a : ℕ} → (AcceptedBy kind img n before (suc m) → ⊥) → HowMany kind img n before m a → HowMany kind img n before (suc m) a
+
+-- c is 0 and no file rests on itself, or c is a file that does
+abbrev pub CircleRight : Bytes → ℕ → ℕ → Type 0
+CircleRight img n c =
+    ((c ≡ 0) × ((p : Bytes) → Rests (set_of img n) p p → ⊥)) ⊎ (FileOf n c × Rests (set_of img n) (file_path img c) (file_path img c))
+
+-- what an answer says of the files of an image with n files after the calls before it, in the terms of the definition. Of refusals 33 alone:
+-- every file is settled.
+abbrev pub EventRight : Kind → Bytes → ℕ → List Event → Event → Type 0
+EventRight kind img n before (took (Ok k)) = FileOf n k × (Member k (settles before) → ⊥)
+EventRight kind img n before (took (Err e)) = e ≡ NonePending → (k : ℕ) → FileOf n k → Member k (settles before)
+EventRight kind img n before (settled k (Ok count)) = FileOf n k × (Member k (settles before) → ⊥) × CountRight kind (set_of img n) (file_path img k) count
+EventRight kind img n before (settled k (Err e)) = Unit {0}
+EventRight kind img n before (returned k (Ok u)) = FileOf n k × (Member k (settles before) → ⊥)
+EventRight kind img n before (returned k (Err e)) = Unit {0}
+EventRight kind img n before (told k (Ok o)) = FileOf n k × ToldRight kind img n before k o
+EventRight kind img n before (told k (Err e)) = Unit {0}
+EventRight kind img n before (located k j w out (Ok count)) =
+    FileOf n k × Member k (settles before) × (q : Bytes) × RightPath (set_of img n) (D kind) (file_path img k) j q × Wrote q out count
+EventRight kind img n before (located k j w out (Err e)) = Unit {0}
+EventRight kind img n before (rewritten k w out (Ok count)) =
+    FileOf n k × (m : Meaning) × Means (set_of img n) (file_path img k) m × Wrote (canonical m) out count
+EventRight kind img n before (rewritten k w out (Err e)) = Unit {0}
+EventRight kind img n before (circled (Ok c)) = CircleRight img n c
+EventRight kind img n before (circled (Err e)) = Unit {0}
+EventRight kind img n before (lined k w out (Ok count)) =
+    FileOf n k × (o : Option Verdict) × ToldRight kind img n before k o × Wrote (line_text k (shown o)) out count
+EventRight kind img n before (lined k w out (Err e)) = Unit {0}
+EventRight kind img n before (tailed w out (Ok count)) = (a : ℕ) × HowMany kind img n before n a × Wrote (tail_text n a) out count
+EventRight kind img n before (tailed w out (Err e)) = Unit {0}
+
+-- each answer is right after the calls before it
+abbrev pub AnswersRight : Kind → Bytes → ℕ → List Event → List Event → Type 0
+AnswersRight kind img n before [] = Unit {0}
+AnswersRight kind img n before (e ∷ es) = EventRight kind img n before e × AnswersRight kind img n (before ++ (e ∷ [])) es
+
+-- ---- sums
 
 -- total is the sum of the counts that are right for these files
 abbrev pub Total : Kind → Bytes → ℕ → List ℕ → ℕ → Type 0
@@ -95,8 +142,8 @@ Distinct (k ∷ ks) = (Member k ks → ⊥) × Distinct ks
 -- ---- the main theorem: a list of calls from a newly opened checker on
 
 pub record Right (kind : Kind) (img : Bytes) (n : ℕ) (es : List Event) (t : Stage) : Type 0 where
-  -- every answer is the definition's
-  pub answers : AllByRecursion (EventRight kind img n) es
+  -- every answer that is no refusal is the definition's, and none is pending where 33 is answered
+  pub answers : AnswersRight kind img n [] es
   -- the image stays, and every settled file has the definition's verdict and hashes
   pub opened : t.view.opened ≡ true
   pub image : t.view.image ≡ img
@@ -104,16 +151,32 @@ pub record Right (kind : Kind) (img : Bytes) (n : ℕ) (es : List Event) (t : St
   pub verdicts : (k : ℕ) (s : Settlement) → 1 ≤ k → k ≤ n → t.view.row k ≡ Settled s → VerdictRight kind (set_of img n) (file_path img k) s.verdict
   pub hashes : (k : ℕ) (s : Settlement) → 1 ≤ k → k ≤ n → t.view.row k ≡ Settled s
       → Iff ((h : Hashes) × (s.hashes ≡ Some h)) (Hashable (set_of img n) (file_path img k))
+  pub are : (k : ℕ) (s : Settlement) (h : Hashes) → 1 ≤ k → k ≤ n → t.view.row k ≡ Settled s → s.hashes ≡ Some h
+      → Hashed (set_of img n) (D kind) (file_path img k) h.hash.bytes × MaskedHash (set_of img n) (D kind) (file_path img k) h.masked
   -- the settled files are those of the settles that were not refused, and the counts add up; no file is settled twice
   pub exactly : (k : ℕ) → 1 ≤ k → k ≤ n → Iff (Member k (settles es)) ((s : Settlement) × (t.view.row k ≡ Settled s))
   pub once : Distinct (settles es)
   pub total : Total kind img n (settles es) (counted es)
   -- at most one visit is out
   pub one : (j k : ℕ) → TakenAt t.view j → TakenAt t.view k → j ≡ k
+  -- and what the next call needs is so: above all, a taken file is ready, or no file that is not settled is
+  pub sound : SoundView kind t.view
 
 abbrev pub RunTheorem : Type 0
 RunTheorem = (kind : Kind) (img : Bytes) (n : ℕ) → Opens img n → (sink : sinks.Meaning) (buffer : List ℕ) (es : List Event) (t : Stage)
     → Runs kind (record { view = fresh img n; sink = sink; buffer = buffer }) es t → Right kind img n es t
+
+-- every call leaves a sound view sound
+abbrev pub SoundSteps : Type 0
+SoundSteps = (kind : Kind) (s t : Stage) (e : Event) → SoundView kind s.view → Happens kind s e t → SoundView kind t.view
+
+-- a front of a run is a run, so that what holds of every run holds throughout each
+abbrev pub RunsSplit : Type 0
+RunsSplit = (kind : Kind) (s t : Stage) (es fs : List Event) → Runs kind s (es ++ fs) t → (u : Stage) × Runs kind s es u × Runs kind u fs t
+
+-- a total that is below 2 ^ 64 stays so
+abbrev pub TotalsSmall : Type 0
+TotalsSmall = (kind : Kind) (s t : Stage) (es : List Event) → s.sink.total < 2 ^ 64 → Runs kind s es t → t.sink.total < 2 ^ 64
 
 -- each settle's count is the rise of the sink's total, modulo 2 ^ 64
 abbrev pub CountIsRise : Type 0
@@ -162,12 +225,24 @@ pub record SameView (v w : View) : Type 0 where
   pub count : v.count ≡ w.count
   pub rows : (k : ℕ) → SameState (v.row k) (w.row k)
 
+-- every file that is settled with hashes can have one
+abbrev pub HashesHold : View → Type 0
+HashesHold v = (k : ℕ) (h : Hashes) → HashedAt v k h → Hashable (files v) (path_at v k)
+
+-- it is so in every sound view
+abbrev pub SoundHashesHold : Type 0
+SoundHashesHold = (kind : Kind) (v : View) → SoundView kind v → HashesHold v
+
+-- Whatever the digest and the states, but for two calls. Settle asks for a digest of 32 bytes, since a hash that is kept has 32;
+-- path asks that what is settled with hashes can have one, since the outputs of any other file have no right path.
 pub record SomeAnswers (kind : Kind) (v : View) : Type 0 where
   pub take : (r : Result ℕ CallRefusal) × (w : View) × Takes v r w
-  pub settle : (k : ℕ) (before : sinks.Meaning) → (r : Result ℕ CallRefusal) × (w : View) × (after : sinks.Meaning) × Settles kind v k before r w after
+  pub settle : Wide (D kind)
+      → (k : ℕ) (before : sinks.Meaning) → (r : Result ℕ CallRefusal) × (w : View) × (after : sinks.Meaning) × Settles kind v k before r w after
   pub put_back : (k : ℕ) → (r : Result (Unit {0}) CallRefusal) × (w : View) × PutsBack v k r w
   pub verdict : (k : ℕ) → (r : Result (Option Verdict) CallRefusal) × Tells v k r
-  pub path : (k j : ℕ) (out : List ℕ) (before : sinks.Meaning) → (r : Result ℕ CallRefusal) × (after : List ℕ) × (sink : sinks.Meaning) × Paths kind v k j out before r after sink
+  pub path : HashesHold v
+      → (k j : ℕ) (out : List ℕ) (before : sinks.Meaning) → (r : Result ℕ CallRefusal) × (after : List ℕ) × (sink : sinks.Meaning) × Paths kind v k j out before r after sink
   pub rewrite : (k : ℕ) (out : List ℕ) → (r : Result ℕ CallRefusal) × (after : List ℕ) × Rewrites v k out r after
   pub circle : (r : Result ℕ CallRefusal) × Circles v r
   pub line : (k : ℕ) (out : List ℕ) → (r : Result ℕ CallRefusal) × (after : List ℕ) × Lines v k out r after
@@ -188,9 +263,15 @@ pub record OneAnswer (kind : Kind) (v : View) : Type 0 where
   pub circle : (e : CallRefusal) (c : ℕ) → Circles v (Err e) → Circles v (Ok c) → ⊥
   pub no_circle : (b c : ℕ) → Circles v (Ok b) → Circles v (Ok c) → b ≡ 0 → c ≡ 0
 
--- whatever the checker's image and states, the digest sink and the buffer
+-- every list of calls has a run from a newly opened checker on, where the digest has 32 bytes
+abbrev pub EveryListRuns : Type 0
+EveryListRuns = (kind : Kind) → Wide (D kind) → (img : Bytes) (n : ℕ) → Opens img n → (sink : sinks.Meaning) (buffer : List ℕ) (rs : List Request)
+    → (es : List Event) × (t : Stage) × (map asked es ≡ rs) × Runs kind (record { view = fresh img n; sink = sink; buffer = buffer }) es t
+
+-- whatever the checker's image and states, the digest sink and the buffer, but for what settle and path ask above
 abbrev pub EveryCallAnswers : Type 0
 EveryCallAnswers = (kind : Kind) (v : View) → Opens v.image v.count → SomeAnswers kind v
 
+-- and whatever the image
 abbrev pub OneCallAnswer : Type 0
-OneCallAnswer = (kind : Kind) (v : View) → Opens v.image v.count → OneAnswer kind v
+OneCallAnswer = (kind : Kind) (v : View) → OneAnswer kind v

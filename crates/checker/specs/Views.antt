@@ -1,6 +1,6 @@
 -- What a checker stands for: the files of an image by their numbers, and the state of each; which files are ready.
 -- Source: this project's own rule (docs/CALLS.md, "Calls").
-use Rattle.std.specs.Prelude.{◌≡◌, ℕ, ◌≤◌, Bool, true, Some, None, Option, ◌≢◌}
+use Rattle.std.specs.Prelude.{◌≡◌, ℕ, ◌<◌, ◌≤◌, Bool, true, Some, None, Option, ◌≢◌}
 use Rattle.canonical.specs.Meanings.{Meaning}
 use Rattle.hash_modulo.specs.Sets as sets
 use Rattle.hash_modulo.specs.Sets.{Bytes, Files, Means, Row, Names}
@@ -74,6 +74,15 @@ pub data ReadyFile (v : View) (k : ℕ) : Type 0 where
   spoilt : (m : Meaning) → Means (files v) (path_at v k) m → (r : Row) → Names m r → (j : ℕ) → NumberOf v r.0 j → UnhashedAt v j → ReadyFile v k
   supplied : (m : Meaning) → Means (files v) (path_at v k) m
       → ((r : Row) → Names m r → (j : ℕ) × (h : Hashes) × NumberOf v r.0 j × HashedAt v j h) → ReadyFile v k
+
+-- pending and ready
+abbrev pub ReadyAt : View → ℕ → Type 0
+ReadyAt v k = PendingAt v k × ReadyFile v k
+
+-- the lowest number of which it holds, or none where it holds of none
+abbrev pub Lowest : (ℕ → Type 0) → Option ℕ → Type 0
+Lowest Holds None = (k : ℕ) → Holds k → ⊥
+Lowest Holds (Some k) = Holds k × ((j : ℕ) → j < k → Holds j → ⊥)
 
 -- w is v with the file k in the state s
 pub record Changes (v : View) (k : ℕ) (s : State) (w : View) : Type 0 where

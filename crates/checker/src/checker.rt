@@ -22,4 +22,13 @@ pub struct Visit {
     file: usize,
 }
 
+pub mod asking;
+pub mod choosing;
+pub mod cycles;
+pub mod locating;
+pub mod opening;
+pub mod reporting;
+pub mod rewriting;
+pub mod settling;
 pub mod visits;
+pub mod writing;

@@ -1,6 +1,9 @@
-// Why a call is refused.
+// Why a call is refused, and why a set is not opened.
 ghost use Rattle.std.specs.Prelude.{◌≡◌};
+ghost use Rattle.checker.specs.Opened.{open_number, open_slot};
 ghost use Rattle.checker.specs.Refusals.{call_number};
+
+use image::Refusal;
 
 // Each is told by its number.
 #[derive(Clone, Copy)]
@@ -31,5 +34,35 @@ impl CallRefusal {
         ensures { result ≡ call_number self }
     {
         self as u8
+    }
+}
+
+#[derive(Clone, Copy)]
+pub enum OpenRefusal {
+    // A set is opened already.
+    AlreadyOpen,
+    // The image does not open.
+    Image(Refusal),
+}
+
+impl OpenRefusal {
+    // A match, as `Refusal` of image has it: the variants carry more than a number.
+    pub fn number(self) -> u8
+        ensures { result ≡ open_number self }
+    {
+        match self {
+            OpenRefusal::AlreadyOpen => 1,
+            OpenRefusal::Image(refusal) => refusal.number(),
+        }
+    }
+
+    // 0 where no slot is at fault, as it is printed.
+    pub fn slot(self) -> u16
+        ensures { result ≡ open_slot self }
+    {
+        match self {
+            OpenRefusal::AlreadyOpen => 0,
+            OpenRefusal::Image(refusal) => refusal.slot(),
+        }
     }
 }

@@ -1,7 +1,7 @@
 // How the files that a file's input rows name stand.
-ghost use Rattle.std.specs.Prelude.{◌≡◌};
+ghost use Rattle.std.specs.Prelude.{◌≡◌, Decides};
 ghost use Rattle.checker.specs.Rows.{row_at};
-ghost use Rattle.checker.specs.Standings.{standing_in, FirstLink};
+ghost use Rattle.checker.specs.Standings.{standing_in, FirstLink, SomeLink, LinksFaulty, LinksReady};
 
 use crate::state::State;
 use crate::states::States;
@@ -43,4 +43,27 @@ pub fn first_link(links: &Links, states: &States, wanted: Standing) -> Option<us
     links.rows[..links.count]
         .iter()
         .position(|link| standing_of(*link, states) == wanted)
+}
+
+// Whether the file of some row stands so.
+fn has_link(links: &Links, states: &States, wanted: Standing) -> bool
+    ensures { Decides result (SomeLink (row_at states.now) links.now wanted) }
+{
+    first_link(links, states, wanted).is_some()
+}
+
+// Whether some row's file is absent, does not own an output that is wanted, or is settled without a hash.
+fn are_faulty(links: &Links, states: &States) -> bool
+    ensures { Decides result (LinksFaulty (row_at states.now) links.now) }
+{
+    has_link(links, states, Standing::Absent)
+        || has_link(links, states, Standing::Unowned)
+        || has_link(links, states, Standing::Unhashed)
+}
+
+// Whether a file that reads, with these links, is ready.
+pub fn are_ready(links: &Links, states: &States) -> bool
+    ensures { Decides result (LinksReady (row_at states.now) links.now) }
+{
+    are_faulty(links, states) || !has_link(links, states, Standing::Waiting)
 }

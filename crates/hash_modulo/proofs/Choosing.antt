@@ -13,7 +13,7 @@ use Rattle.hash_modulo.proofs.Founding.{reads_present, hashable_reads, hashable_
 use Rattle.hash_modulo.proofs.Hashes.{one_text, no_cycle, inputs_hashable, one_meaning}
 
 -- all, or one that is not
-abbrev AllOrOne : {A : Type 0} → (A → Type 0) → List A → Type 0
+abbrev pub AllOrOne : {A : Type 0} → (A → Type 0) → List A → Type 0
 AllOrOne {A} P xs = ((a : A) → Member a xs → P a) ⊎ ((a : A) × Member a xs × (P a → ⊥))
 
 all_more : {A : Type 0} (P : A → Type 0) (x : A) (xs : List A) → Known (P x) → AllOrOne P xs → AllOrOne P (x ∷ xs)
@@ -21,7 +21,7 @@ all_more P x xs (inr n) w = inr (x, inl refl, n)
 all_more P x xs (inl p) (inr z) = inr (z.0, inr z.1, z.2)
 all_more P x xs (inl p) (inl all) = inl (λ a i. elim i [ inl e ↦ subst P (sym e) p | inr j ↦ all a j ])
 
-all? : {A : Type 0} (P : A → Type 0) (xs : List A) → ((a : A) → Member a xs → Known (P a)) → AllOrOne P xs
+pub all? : {A : Type 0} (P : A → Type 0) (xs : List A) → ((a : A) → Member a xs → Known (P a)) → AllOrOne P xs
 all? P [] f = inl (λ a i. absurd i)
 all? P (x ∷ xs) f = all_more P x xs (f x (inl refl)) (all? P xs (λ a i. f a (inr i)))
 
@@ -43,7 +43,7 @@ pub present? : (o : Option Bytes) → Known ((t : Bytes) × (o ≡ Some t))
 present? None = inr (λ z. let e = z.1 in cc)
 present? (Some t) = inl (t, refl)
 
-readable? : (set : Files) (p : Bytes) → Known (Readable set p)
+pub readable? : (set : Files) (p : Bytes) → Known (Readable set p)
 readable? set p = at (set p) refl
   where
     at : (o : Option Bytes) → set p ≡ o → Known (Readable set p)
@@ -62,7 +62,7 @@ owned? set r = elim (readable? set r.0) [
   ]
 ]
 
-ready? : (set : Files) (m : Meaning) → Known (Ready set m)
+pub ready? : (set : Files) (m : Meaning) → Known (Ready set m)
 ready? set m = join (all? (λ (r : Row). Present set r.0) m.1.0 (λ r i. present? (set r.0))) (all? (Owned set) m.1.0 (λ r i. owned? set r))
   where
     join : AllOrOne (λ (r : Row). Present set r.0) m.1.0 → AllOrOne (Owned set) m.1.0 → Known (Ready set m)

@@ -3,7 +3,7 @@ use Rattle.std.proofs.Common.{◌≡◌, ℕ, ◌⊎◌, List, ◌∷◌, ◌++�
 use Rattle.canonical.specs.Meanings.{Meaning}
 use Rattle.file_meaning.specs.Reads.{Reads}
 use Rattle.hash_modulo.specs.Hashes.{Digest, Fixed, fixed_string, Hashed, hashed, HashString}
-use Rattle.hash_modulo.specs.Laws.{StringsStand, StringsShort, DigestedStand, OneRightPath, SameMeanings, MeaningAlone}
+use Rattle.hash_modulo.specs.Laws.{StringsStand, Wide, StringsShort, DigestedStand, OneRightPath, SameMeanings, MeaningAlone}
 use Rattle.hash_modulo.specs.Paths.{References, OwnPath, OutputPath, MaskedString}
 use Rattle.hash_modulo.specs.Sets.{Bytes, Files, Means, Row, Names, Ready, Hashable, hashable}
 use Rattle.hash_modulo.specs.Strings.{own_strings, fixed_strings, output_string, FileStrings, of_fixed, of_text, InputsHashed, Digested, no_output, RightPath, own, output}
@@ -42,14 +42,14 @@ strings_stand = record { some = some_strings; one = one_strings }
 
 -- ---- the strings of a file of a set
 
+pub hash_wide : {set : Files} {d : Digest} {p h : Bytes} → Wide d → Hashed set d p h → length h ≡ 32
+hash_wide w (hashed m g s e y i x a) = ap length a ∙ w s
+
 pub strings_short : StringsShort
 strings_short set d w p text ss e short long x =
     let same : x.means.text ≡ text = one_text (set p) x.means.text text x.means.at e in
     let r : Reads p text x.meaning = subst (λ (t : Bytes). Reads p t x.meaning) same x.means.reads in
-    strings_short_at d w (within_limits p text x.meaning short long r) (λ r o. hash_wide (x.inputs r o)) x.strings
-  where
-    hash_wide : {q h : Bytes} → Hashed set d q h → length h ≡ 32
-    hash_wide (hashed m g s e y i x a) = ap length a ∙ w s
+    strings_short_at d w (within_limits p text x.meaning short long r) (λ r o. hash_wide w (x.inputs r o)) x.strings
 
 one_digested : (set : Files) (d : Digest) (p : Bytes) (ss ts : List Bytes) → Digested set d p ss → Digested set d p ts → ss ≡ ts
 one_digested set d p ss ts a b =

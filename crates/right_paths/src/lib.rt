@@ -28,4 +28,4 @@ pub use inputs::hash_inputs;
 pub use names::{OutputName, name_of};
 pub use parts::Word;
 pub use said::Said;
-pub use texts::MaskedText;
+pub use texts::{CanonicalText, MaskedText};

@@ -1,20 +1,64 @@
-// Visits to the files of a set: put back.
-ghost use Rattle.std.specs.Prelude.{◌≡◌, Decides, OnErr, IfErr};
-ghost use Rattle.checker.specs.Calls.{PutsBack};
-ghost use Rattle.checker.specs.Seen.{view_of, view_in, Stays, told_back};
+// Visits to the files of a set: take, settle, put back.
+ghost use Rattle.std.specs.Prelude.{◌≡◌, Decides, Some, OnErr, IfErr};
+ghost use Rattle.checker.specs.Calls.{SomeTaken, Takes, Settles, PutsBack};
+ghost use Rattle.checker.specs.Seen.{view_of, view_in, visited, Kept, KeptIn, Stays, told_back};
+ghost use Rattle.checker.specs.Settling.{kind_of};
+ghost use Rattle.checker.specs.Soundness.{SoundView};
 ghost use Rattle.checker.specs.Views.{TakenAt};
 
 use super::{Checker, OpenSet, Visit};
 use crate::refused::CallRefusal;
 use crate::state::State;
+use sink::DigestSink;
 
 impl<'a> OpenSet<'a> {
-    // Whether the visit's file is taken here.
-    fn has_taken(&self, visit: &Visit) -> bool
-        ensures { Decides result (TakenAt (view_in self.now) visit.now.file) }
+    // Whether the file is taken.
+    fn is_taken(&self, file: usize) -> bool
+        ensures { Decides result (TakenAt (view_in self.now) file) }
     {
-        (1..=self.image.count()).contains(&visit.file)
-            && matches!(self.states.get(visit.file), State::Taken)
+        self.numbers().contains(&file) && matches!(self.states.get(file), State::Taken)
+    }
+
+    // Whether some file is taken.
+    fn has_taken(&self) -> bool
+        ensures { Decides result (SomeTaken (view_in self.now)) }
+    {
+        self.numbers().any(|file| self.is_taken(file))
+    }
+
+    fn take(&mut self) -> Result<Visit, CallRefusal>
+        ensures takes { KeptIn (Some self.old) → Takes (view_in self.old) (visited result) (view_in self.new) }
+        ensures stays { (self.new.image ≡ self.old.image) × (self.new.links ≡ self.old.links) }
+        ensures same { OnErr result (self.new ≡ self.old) }
+    {
+        if self.has_taken() {
+            return Err(CallRefusal::VisitOut);
+        }
+        let file = self.choose().ok_or(CallRefusal::NonePending)?;
+        self.states.put(file, State::Taken);
+        Ok(Visit { file })
+    }
+
+    // The file is settled with what is decided of it. The precondition goes when the set's type carries the fact.
+    fn settle<S: DigestSink>(
+        &mut self,
+        visit: Visit,
+        sink: &mut S,
+    ) -> Result<u64, (Visit, CallRefusal)>
+        requires { KeptIn (Some self.old) }
+        ensures settles { SoundView (kind_of S.Sink.step S.DigestSink.start S.DigestSink.capacity S.DigestSink.answered) (view_in self.old) → Settles (kind_of S.Sink.step S.DigestSink.start S.DigestSink.capacity S.DigestSink.answered) (view_in self.old) visit.file (S.Sink.held sink.old).meaning (told_back result) (view_in self.new) (S.Sink.held sink.new).meaning }
+        ensures stays { (self.new.image ≡ self.old.image) × (self.new.links ≡ self.old.links) }
+        ensures same { OnErr result ((self.new ≡ self.old) × (sink.new ≡ sink.old)) }
+        ensures back { IfErr result (λ e. e.0 ≡ visit) }
+    {
+        if !self.is_taken(visit.file) {
+            return Err((visit, CallRefusal::NotTaken));
+        }
+        let Visit { file: number } = visit;
+        let file = self.image.file(number).unwrap();
+        let decided = self.settle_file(file, self.links.get(number), sink);
+        self.states.put(number, State::Settled(decided.value));
+        Ok(decided.count)
     }
 
     fn put_back(&mut self, visit: Visit) -> Result<(), (Visit, CallRefusal)>
@@ -23,7 +67,7 @@ impl<'a> OpenSet<'a> {
         ensures same { OnErr result (self.new ≡ self.old) }
         ensures back { IfErr result (λ e. e.0 ≡ visit) }
     {
-        if !self.has_taken(&visit) {
+        if !self.is_taken(visit.file) {
             return Err((visit, CallRefusal::NotTaken));
         }
         let Visit { file } = visit;
@@ -33,6 +77,37 @@ impl<'a> OpenSet<'a> {
 }
 
 impl<'a> Checker<'a> {
+    // A visit to the file that is chosen; no other visit may be out.
+    pub fn take(&mut self) -> Result<Visit, CallRefusal>
+        ensures takes { Kept self.old → Takes (view_of self.old) (visited result) (view_of self.new) }
+        ensures stays { Stays self.old self.new }
+        ensures same { OnErr result (self.new ≡ self.old) }
+    {
+        match &mut self.opened {
+            Some(set) => set.take(),
+            None => Err(CallRefusal::NotOpened),
+        }
+    }
+
+    // The file is settled, and the answer is how many bytes are digested for it; a refusal hands the visit back.
+    // The precondition goes when the set's type carries the fact.
+    pub fn settle<S: DigestSink>(
+        &mut self,
+        visit: Visit,
+        sink: &mut S,
+    ) -> Result<u64, (Visit, CallRefusal)>
+        requires { Kept self.old }
+        ensures settles { SoundView (kind_of S.Sink.step S.DigestSink.start S.DigestSink.capacity S.DigestSink.answered) (view_of self.old) → Settles (kind_of S.Sink.step S.DigestSink.start S.DigestSink.capacity S.DigestSink.answered) (view_of self.old) visit.file (S.Sink.held sink.old).meaning (told_back result) (view_of self.new) (S.Sink.held sink.new).meaning }
+        ensures stays { Stays self.old self.new }
+        ensures same { OnErr result ((self.new ≡ self.old) × (sink.new ≡ sink.old)) }
+        ensures back { IfErr result (λ e. e.0 ≡ visit) }
+    {
+        match &mut self.opened {
+            Some(set) => set.settle(visit, sink),
+            None => Err((visit, CallRefusal::NotOpened)),
+        }
+    }
+
     // The file is pending again; a refusal hands the visit back.
     pub fn put_back(&mut self, visit: Visit) -> Result<(), (Visit, CallRefusal)>
         ensures puts { PutsBack (view_of self.old) visit.file (told_back result) (view_of self.new) }

@@ -1,0 +1,6 @@
+use Rattle.checker.proofs.Steps.{sound_steps, runs_split}
+use Rattle.checker.proofs.Telling.{run_theorem}
+use Rattle.checker.proofs.laws.runs_stand.Goals as goal
+
+pub returns : goal.returns
+returns c = record { right = run_theorem; sound = sound_steps; split = runs_split }
