@@ -24,7 +24,6 @@ use Rattle.hash_modulo.proofs.Hashes.{one_text, one_meaning, inputs_hashable}
 use Rattle.image.specs.Opening.{Opens}
 use Rattle.links.specs.Linked.{LinkRight, RowsLinked, no_input}
 use Rattle.links.specs.declared.link.Links.{Links}
-use Rattle.links.proofs.Files.{set_only}
 use Rattle.verdict.specs.Judged.{Behind, row_of, there, owning, UnhashedRow, Judged}
 use Rattle.verdict.specs.Judged as judged
 use Rattle.verdict.specs.declared.fault.Fault.{Fault}
@@ -41,7 +40,7 @@ use Rattle.checker.specs.declared.standing.Standing.{Standing}
 use Rattle.checker.specs.declared.standing.Standing.TheVariants.{Absent, Unowned, Unhashed, Waiting}
 use Rattle.checker.specs.declared.state.Hashes.{Hashes}
 use Rattle.checker.specs.declared.state.Settlement.{Settlement}
-use Rattle.checker.proofs.Keeping.{settled_without, unhashed_input, one_number}
+use Rattle.checker.proofs.Keeping.{settled_without, number_of, unhashed_input, one_number}
 use Rattle.checker.proofs.Linking.{with_hash as kept_with, without_hash, waits, stands, clash, present, not_present, owns, not_owner, all_yes, first_no, at_unhashed, at_waiting, unhashed_there, waiting_there}
 
 module _ (kind : Kind) (v : View) (opens : Opens v.image v.count) (sound : SoundView kind v) (k : ℕ) (taken : TakenAt v k) (l : Links) (file : Derivation) (text : Bytes)
@@ -63,9 +62,6 @@ module _ (kind : Kind) (v : View) (opens : Opens v.image v.count) (sound : Sound
 
   abbrev NotWaiting : Tree input → Type 0
   NotWaiting t = (j : ℕ) → NumberOf v (meaning t.0) j → WaitingAt v j → ⊥
-
-  numbers : (p : Bytes) → Present (files v) p → (j : ℕ) × NumberOf v p j
-  numbers p z = let f = set_only v.image v.count p z.0 z.1 in (f.number, record { exists = (f.from, f.to); is = f.path })
 
   once : (p : Bytes) (i j : ℕ) → NumberOf v p i → NumberOf v p j → i ≡ j
   once = one_number v opens
@@ -174,7 +170,7 @@ module _ (kind : Kind) (v : View) (opens : Opens v.image v.count) (sound : Sound
         row = z.row;
         stands = stand;
         without = λ h. z.refused (λ j n c.
-            unhashed_input kind v sound numbers once k taken m f y j c (r.0, r.1, record { exists = n.exists; is = n.is ∙ sym r.2 })
+            unhashed_input kind v sound once k taken m f y j c (r.0, r.1, record { exists = n.exists; is = n.is ∙ sym r.2 })
             (none_spoilt own un m (means_x m some_meaning.1)) (subst (Hashable (files v)) (sym n.is) h));
       }
 
@@ -207,7 +203,7 @@ module _ (kind : Kind) (v : View) (opens : Opens v.image v.count) (sound : Sound
     kept_row : (n : Meaning) → kinds.Means a_derivation x n → (r : Row) → Names n r → (j : ℕ) × (y : Hashes) × NumberOf v r.0 j × HashedAt v j y
     kept_row n means r o =
         let b = input_back x n means r o in
-        let z = numbers (meaning b.0.0) (each input Inputs (λ t. Present (files v) (meaning t.0)) from [] x.1.0 (all_there ab) b.0 b.1) in
+        let z = number_of v (meaning b.0.0) (each input Inputs (λ t. Present (files v) (meaning t.0)) from [] x.1.0 (all_there ab) b.0 b.1) in
         elim (stands (v.row z.0)) [
           | kept_with s y c d e ↦ (
             z.0,

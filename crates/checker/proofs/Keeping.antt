@@ -6,6 +6,7 @@ use Rattle.hash_modulo.specs.Hashes.{Hashed}
 use Rattle.hash_modulo.specs.Sets.{Bytes, Files, Present, Means, Row, Names, Ready, Hashable, hashable}
 use Rattle.hash_modulo.proofs.Hashes.{one_meaning}
 use Rattle.image.specs.Opening.{Opens}
+use Rattle.links.proofs.Files.{set_only}
 use Rattle.sink.specs.Write as sinks
 use Rattle.checker.specs.Calls.{Kind, D, MaskedHash, NoneTaken, Chosen, first_ready, first_pending, Takes, Outcome, with_hash, without, Decides, Settles, PutsBack}
 use Rattle.checker.specs.Soundness.{RowRight, WaitingAt, NoneReady, SoundView}
@@ -42,11 +43,21 @@ same_hashes o h k a b = cc
 -- ---- views
 
 -- the view with other states
-abbrev with_rows : View → (ℕ → State) → View
+abbrev pub with_rows : View → (ℕ → State) → View
 with_rows v row = record { opened = v.opened; image = v.image; count = v.count; row = row }
 
-same_view : {v w : View} {k : ℕ} {s : State} → Changes v k s w → with_rows v w.row ≡ w
+pub same_view : {v w : View} {k : ℕ} {s : State} → Changes v k s w → with_rows v w.row ≡ w
 same_view {v} {w} c = λ i. record { opened = sym c.opened i; image = sym c.image i; count = sym c.count i; row = w.row }
+
+-- an input that is settled with a hash is so where all that was settled stays
+pub stays_supplied : (v : View) (row : ℕ → State) → ((j : ℕ) (s : Settlement) → v.row j ≡ Settled s → row j ≡ Settled s) → (r : Row)
+    → (j : ℕ) × (h : Hashes) × NumberOf v r.0 j × HashedAt v j h → (j : ℕ) × (h : Hashes) × NumberOf (with_rows v row) r.0 j × HashedAt (with_rows v row) j h
+stays_supplied v row f r (j, h, a, u) = (
+  j,
+  h,
+  record { exists = a.exists; is = a.is },
+  record { exists = u.exists; settlement = u.settlement; settled = f j u.settlement u.settled; is = u.is },
+)
 
 -- a ready file stays ready where all that was settled stays
 stays_ready : (v : View) (row : ℕ → State) → ((j : ℕ) (s : Settlement) → v.row j ≡ Settled s → row j ≡ Settled s) → (k : ℕ) → ReadyFile v k → ReadyFile (with_rows v row) k
@@ -54,16 +65,7 @@ stays_ready v row f k (early n) = early n
 stays_ready v row f k (spoilt m e r o j a u) =
     spoilt m e r o j (record { exists = a.exists; is = a.is })
     (record { exists = u.exists; settlement = u.settlement; settled = f j u.settlement u.settled; is = u.is })
-stays_ready v row f k (supplied m e all) = supplied m e (λ r o. moved r (all r o))
-  where
-    moved : (r : Row) → (j : ℕ) × (h : Hashes) × NumberOf v r.0 j × HashedAt v j h
-        → (j : ℕ) × (h : Hashes) × NumberOf (with_rows v row) r.0 j × HashedAt (with_rows v row) j h
-    moved r (j, h, a, u) = (
-      j,
-      h,
-      record { exists = a.exists; is = a.is },
-      record { exists = u.exists; settlement = u.settlement; settled = f j u.settlement u.settled; is = u.is },
-    )
+stays_ready v row f k (supplied m e all) = supplied m e (λ r o. stays_supplied v row f r (all r o))
 
 -- ---- open
 
@@ -75,6 +77,11 @@ fresh_sound kind img n = record {
 }
 
 -- ---- take
+
+-- what is handed out was pending
+pub is_pending : (v : View) (k : ℕ) → Chosen v k → PendingAt v k
+is_pending v k (first_ready p r n) = p
+is_pending v k (first_pending p n m) = p
 
 taken_sound : (kind : Kind) (v : View) (row : ℕ → State) (k : ℕ) → NoneTaken v → Chosen v k → row k ≡ Taken → ((j : ℕ) → (j ≡ k → ⊥) → row j ≡ v.row j)
     → SoundView kind v → SoundView kind (with_rows v row)
@@ -88,7 +95,7 @@ taken_sound kind v row k none chosen here others sound = record {
     before j s e = sym (others j (λ same. taken_settled (row j) s (ap row same ∙ here) e)) ∙ e
 
     pending : PendingAt v k
-    pending = elim chosen [ first_ready p r n ↦ p | first_pending p n m ↦ p ]
+    pending = is_pending v k chosen
 
     after : (j : ℕ) (s : Settlement) → v.row j ≡ Settled s → row j ≡ Settled s
     after j s e = others j (λ same. not_settled (v.row j) s (ap v.row same ∙ pending.is) e) ∙ e
@@ -180,15 +187,17 @@ settled_with kind v sound p y idle (j, a) = way (v.row j) refl
     way Taken e = absurd (idle j (inr (record { exists = a.exists; is = e })) a.is)
     way (Settled s) e = hashes s e s.hashes refl
 
-stuck_at : (kind : Kind) (v : View) → SoundView kind v → NoneReady v → (numbers : (p : Bytes) → Present (files v) p → (j : ℕ) × NumberOf v p j)
-    → {p : Bytes} → Hashable (files v) p → (k : ℕ) → WaitingAt v k → path_at v k ≡ p → ⊥
-stuck_at kind v sound none numbers (hashable m e y i) k a same =
-    none k a (supplied m (subst (λ (q : Bytes). Means (files v) q m) (sym same) e)
-    (λ r o. settled_with kind v sound r.0 (i r o) (stuck_at kind v sound none numbers (i r o)) (numbers r.0 (y.present r o))))
+-- a file that is present has a number
+pub number_of : (v : View) (p : Bytes) → Present (files v) p → (j : ℕ) × NumberOf v p j
+number_of v p z = let f = set_only v.image v.count p z.0 z.1 in (f.number, record { exists = (f.from, f.to); is = f.path })
 
-pub stuck : (kind : Kind) (v : View) → SoundView kind v → NoneReady v → (numbers : (p : Bytes) → Present (files v) p → (j : ℕ) × NumberOf v p j)
-    → (k : ℕ) → WaitingAt v k → Hashable (files v) (path_at v k) → ⊥
-stuck kind v sound none numbers k a y = stuck_at kind v sound none numbers y k a refl
+stuck_at : (kind : Kind) (v : View) → SoundView kind v → NoneReady v → {p : Bytes} → Hashable (files v) p → (k : ℕ) → WaitingAt v k → path_at v k ≡ p → ⊥
+stuck_at kind v sound none (hashable m e y i) k a same =
+    none k a (supplied m (subst (λ (q : Bytes). Means (files v) q m) (sym same) e)
+    (λ r o. settled_with kind v sound r.0 (i r o) (stuck_at kind v sound none (i r o)) (number_of v r.0 (y.present r o))))
+
+pub stuck : (kind : Kind) (v : View) → SoundView kind v → NoneReady v → (k : ℕ) → WaitingAt v k → Hashable (files v) (path_at v k) → ⊥
+stuck kind v sound none k a y = stuck_at kind v sound none y k a refl
 
 not_waiting : (v : View) (j : ℕ) (h : Hashes) → WaitingAt v j → HashedAt v j h → ⊥
 not_waiting v j h (inl p) u = not_settled (v.row j) u.settlement p.is u.settled
@@ -204,14 +213,14 @@ one_number v o p i j a b =
     omega arith
 
 -- a taken file that passes the questions up to 19, with a waiting input and none that is settled without a hash, is not ready: no waiting file is
-pub unhashed_input : (kind : Kind) (v : View) → SoundView kind v → (numbers : (p : Bytes) → Present (files v) p → (j : ℕ) × NumberOf v p j)
+pub unhashed_input : (kind : Kind) (v : View) → SoundView kind v
     → (once : (p : Bytes) (i j : ℕ) → NumberOf v p i → NumberOf v p j → i ≡ j)
     → (k : ℕ) → TakenAt v k → (m : Meaning) → Means (files v) (path_at v k) m → Ready (files v) m
     → (j : ℕ) → WaitingAt v j → ((r : Row) × Names m r × NumberOf v r.0 j) → ((i : ℕ) → UnhashedAt v i → ((r : Row) × Names m r × NumberOf v r.0 i) → ⊥)
     → Hashable (files v) (path_at v j) → ⊥
-unhashed_input kind v sound numbers once k taken m e y j a (r, o, n) hashed_all h = elim (sound.held k taken) [
+unhashed_input kind v sound once k taken m e y j a (r, o, n) hashed_all h = elim (sound.held k taken) [
   | inl ready ↦ unready ready
-  | inr none ↦ stuck kind v sound none numbers j a h
+  | inr none ↦ stuck kind v sound none j a h
 ]
   where
     unready : ReadyFile v k → ⊥

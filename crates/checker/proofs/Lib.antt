@@ -7,6 +7,7 @@ pub mod Circling
 pub mod Counting
 pub mod Decided
 pub mod Deciding
+pub mod Inputs
 pub mod Keeping
 pub mod Linking
 pub mod Locating

@@ -6,7 +6,7 @@ use Rattle.hash_modulo.specs.Sets.{Bytes, Files}
 use Rattle.image.specs.Layout.{file_path}
 use Rattle.links.specs.Sets.{set_of}
 use Rattle.sink.specs.Write as sinks
-use Rattle.checker.specs.Calls.{Kind, Chosen, first_ready, first_pending, Takes, Outcome, with_hash, without, Decides, Settles, PutsBack}
+use Rattle.checker.specs.Calls.{Kind, Takes, Outcome, with_hash, without, Decides, Settles, PutsBack}
 use Rattle.checker.specs.Events.{Event, took, settled, returned, told, located, rewritten, circled, lined, tailed, Stage, Happens, Runs}
 use Rattle.checker.specs.Soundness.{SoundView}
 use Rattle.checker.specs.Theorem.{CountRight, hashed, unhashed, settles, counted, Total, Distinct}
@@ -16,7 +16,7 @@ use Rattle.checker.specs.declared.state.Hashes.{Hashes}
 use Rattle.checker.specs.declared.state.Settlement.{Settlement}
 use Rattle.checker.specs.declared.state.State.{State}
 use Rattle.checker.specs.declared.state.State.TheVariants.{Pending, Taken, Settled}
-use Rattle.checker.proofs.Keeping.{not_settled, taken_settled, take_keeps, settle_keeps, back_keeps}
+use Rattle.checker.proofs.Keeping.{is_pending, not_settled, taken_settled, take_keeps, settle_keeps, back_keeps}
 
 -- ---- counts
 
@@ -87,13 +87,9 @@ module _ (kind : Kind) (img : Bytes) (n : ℕ) where
     is = changed v w k Taken t.3 a;
     sound = take_keeps kind v w (Ok k) t sound;
     way = quiet (λ es. (refl, refl))
-        (moved_keeps v w k Taken t.3 (λ s. not_settled (v.row k) s (pending t.2)))
+        (moved_keeps v w k Taken t.3 (λ s. not_settled (v.row k) s (is_pending v k t.2).is))
         (moved_back v w k Taken t.3 (λ s. taken_settled Taken s refl));
   }
-    where
-      pending : Chosen v k → v.row k ≡ Pending
-      pending (first_ready p r f) = p.is
-      pending (first_pending p f g) = p.is
   take_step v w (Err e) (q, same) a sound = stays (took (Err e)) v w (λ es. (refl, refl)) same a sound
 
   -- the count of a settle is right for its file

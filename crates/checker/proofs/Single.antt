@@ -11,21 +11,18 @@ use Rattle.verdict.specs.Verdicts.{Verdict}
 use Rattle.checker.specs.Calls.{Kind, D, Put, NoneTaken, SomePending, Chosen, first_ready, first_pending, TakeRefused, Takes, VisitRefused, Settles, PutsBack, FileRefused, Tells, file_line, Lines, summary, Tails, Rewritable, Rewrites, HasHash, HasOutput, PathFits, Paths, OnCycle, Circles}
 use Rattle.checker.specs.Refusals.{Ask, Done}
 use Rattle.checker.specs.Theorem.{SameView, OneCallAnswer}
-use Rattle.checker.specs.Views.{View, Open, files, path_at, Exists, PendingAt, TakenAt, Changes}
+use Rattle.checker.specs.Views.{View, Open, files, path_at, Exists, TakenAt, Changes}
 use Rattle.checker.specs.declared.refused.CallRefusal.{CallRefusal}
 use Rattle.checker.specs.declared.refused.CallRefusal.TheVariants.{NotOpened, VisitOut, NonePending, NotTaken, NoFile, NoHash, NoOutput, NotRead, Short}
 use Rattle.checker.specs.declared.state.State.TheVariants.{Pending, Taken, Settled}
 use Rattle.checker.proofs.Asking.{OneRefusal, NoRefusal, one_refusal, not_refused, all_asked, all_yes}
+use Rattle.checker.proofs.Keeping.{is_pending}
 use Rattle.checker.proofs.Same.{equal_views, changed_alike, put_once, held_once}
 use Rattle.checker.proofs.Settling.{one_path_strings, one_decision}
 
 -- ---- take
 
 module _ (v : View) where
-  pending : (k : ℕ) → Chosen v k → PendingAt v k
-  pending k (first_ready p r n) = p
-  pending k (first_pending p n m) = p
-
   not_before : (j k : ℕ) → Chosen v j → Chosen v k → j < k → ⊥
   not_before j k (first_ready p r n) (first_ready q s m) l = m j l p r
   not_before j k (first_ready p r n) (first_pending q m o) l = m j p r
@@ -42,7 +39,7 @@ module _ (v : View) where
   one_take_refusal = one_refusal (Open v) NotOpened (one_refusal (NoneTaken v) VisitOut (one_refusal (SomePending v) NonePending all_asked))
 
   taking : Open v → NoneTaken v → (k : ℕ) → Chosen v k → NoRefusal (TakeRefused v)
-  taking o n k c = not_refused (Open v) NotOpened o (not_refused (NoneTaken v) VisitOut n (not_refused (SomePending v) NonePending (k, pending k c) all_yes))
+  taking o n k c = not_refused (Open v) NotOpened o (not_refused (NoneTaken v) VisitOut n (not_refused (SomePending v) NonePending (k, is_pending v k c) all_yes))
 
   one_take : (r s : Result ℕ CallRefusal) (w x : View) → Takes v r w → Takes v s x → (r ≡ s) × SameView w x
   one_take (Ok j) (Ok k) w x (o, n, a, c) (p, m, b, d) =

@@ -19,7 +19,7 @@ use Rattle.verdict.specs.declared.fault.Fault.{Fault}
 use Rattle.verdict.specs.declared.fault.Fault.TheVariants.{Unhashed}
 use Rattle.verdict.proofs.Exactly.{accepted_exactly}
 use Rattle.verdict.proofs.One.{one_verdict}
-use Rattle.checker.specs.Calls.{Kind, D, Put, first_ready, first_pending, TakeRefused, Takes, Settles, PutsBack, Tells, file_line, Lines, one_accepted, accepted, summary, Tails, Rewrites, Paths, Circles}
+use Rattle.checker.specs.Calls.{Kind, D, Put, TakeRefused, Takes, Settles, PutsBack, Tells, file_line, Lines, one_accepted, accepted, summary, Tails, Rewrites, Paths, Circles}
 use Rattle.checker.specs.Events.{Window, Event, took, settled, returned, told, located, rewritten, circled, lined, tailed, Stage, Happens, Runs}
 use Rattle.checker.specs.Soundness.{RowRight, SoundView}
 use Rattle.checker.specs.Theorem.{VerdictRight, settles, FileOf, ToldRight, Wrote, AcceptedBy, HowMany, no_files, one_more, no_more, EventRight, AnswersRight, Right, RunTheorem}
@@ -31,7 +31,8 @@ use Rattle.checker.specs.declared.state.Hashes.{Hashes}
 use Rattle.checker.specs.declared.state.Settlement.{Settlement}
 use Rattle.checker.specs.declared.state.State.{State}
 use Rattle.checker.specs.declared.state.State.TheVariants.{Pending, Taken, Settled}
-use Rattle.checker.proofs.Keeping.{not_settled, taken_settled, fresh_sound}
+use Rattle.checker.proofs.Inputs.{run_inputs}
+use Rattle.checker.proofs.Keeping.{is_pending, not_settled, taken_settled, fresh_sound}
 use Rattle.checker.proofs.Rewriting.{put_front}
 use Rattle.checker.proofs.Running.{SettledAt, Of, over, settle_count, Ran, ran}
 
@@ -104,7 +105,7 @@ module _ (kind : Kind) (img : Bytes) (n : ℕ) (fin : Finite (set_of img n)) whe
     take_right (Ok k) w (o, none, chosen, c) = (file_of k pending.exists, not_yet k (λ s. not_settled (v.row k) s pending.is))
       where
         pending : PendingAt v k
-        pending = elim chosen [ first_ready p r f ↦ p | first_pending p f g ↦ p ]
+        pending = is_pending v k chosen
     take_right (Err e) w (q, same) = none_left q
       where
         none_left : TakeRefused v e → e ≡ NonePending → (k : ℕ) → FileOf n k → Member k (settles before)
@@ -258,6 +259,7 @@ module _ (kind : Kind) (img : Bytes) (n : ℕ) (fin : Finite (set_of img n)) whe
         total = r.gains.total;
         one = r.sound.one;
         sound = r.sound;
+        inputs = run_inputs kind es start t runs sound (λ k h x. absurd (none k (x.settlement, x.settled)));
       }
 
 pub run_theorem : RunTheorem

@@ -18,6 +18,7 @@ use Rattle.verdict.specs.declared.fault.Fault.TheVariants.{NotCanonical}
 use Rattle.verdict.specs.Verdicts.{Verdict}
 use Rattle.checker.specs.Calls.{Kind, D, MaskedHash, Takes, Settles, PutsBack, Tells, Lines, Tails, Rewrites, Paths, Circles, shown}
 use Rattle.checker.specs.Events.{Event, took, settled, returned, told, located, rewritten, circled, lined, tailed, Request, asked, Stage, Happens, Runs}
+use Rattle.checker.specs.Locating.{InputsKept}
 use Rattle.checker.specs.Soundness.{SoundView}
 use Rattle.checker.specs.Views.{View, fresh, files, path_at, Exists, TakenAt, HashedAt}
 use Rattle.checker.specs.declared.refused.CallRefusal.{CallRefusal}
@@ -161,6 +162,8 @@ pub record Right (kind : Kind) (img : Bytes) (n : ℕ) (es : List Event) (t : St
   pub one : (j k : ℕ) → TakenAt t.view j → TakenAt t.view k → j ≡ k
   -- and what the next call needs is so: above all, a taken file is ready, or no file that is not settled is
   pub sound : SoundView kind t.view
+  -- and the inputs of each file settled with a hash are settled with one
+  pub inputs : InputsKept t.view
 
 abbrev pub RunTheorem : Type 0
 RunTheorem = (kind : Kind) (img : Bytes) (n : ℕ) → Opens img n → (sink : sinks.Meaning) (buffer : List ℕ) (es : List Event) (t : Stage)
@@ -169,6 +172,10 @@ RunTheorem = (kind : Kind) (img : Bytes) (n : ℕ) → Opens img n → (sink : s
 -- every call leaves a sound view sound
 abbrev pub SoundSteps : Type 0
 SoundSteps = (kind : Kind) (s t : Stage) (e : Event) → SoundView kind s.view → Happens kind s e t → SoundView kind t.view
+
+-- in a sound view where the inputs of each file settled with a hash are settled with one, every call leaves it so
+abbrev pub InputsStay : Type 0
+InputsStay = (kind : Kind) (s t : Stage) (e : Event) → SoundView kind s.view → InputsKept s.view → Happens kind s e t → InputsKept t.view
 
 -- a front of a run is a run, so that what holds of every run holds throughout each
 abbrev pub RunsSplit : Type 0

@@ -1,11 +1,12 @@
 // The laws of calls, each a clause of one contract.
-ghost use Rattle.checker.specs.Theorem.{CountIsRise, EveryCallAnswers, EveryListRuns, OneCallAnswer, RewrittenAlike, RewrittenAgain, RunTheorem, RunsSplit, SoundHashesHold, SoundSteps, TotalsSmall};
+ghost use Rattle.checker.specs.Theorem.{CountIsRise, EveryCallAnswers, EveryListRuns, InputsStay, OneCallAnswer, RewrittenAlike, RewrittenAgain, RunTheorem, RunsSplit, SoundHashesHold, SoundSteps, TotalsSmall};
 
 // For every kind of digest sink, every image that opens and every list of calls, every answer that is no refusal is the definition's, settled files have its verdicts and hashes, each file is settled once, and the counts add up.
-// Every call leaves a sound view sound, and a front of a run is a run.
+// Every call leaves a sound view sound and, there, the inputs of each file settled with a hash settled with one; a front of a run is a run.
 pub fn runs_stand() -> bool
     ensures right { RunTheorem }
     ensures sound { SoundSteps }
+    ensures inputs { InputsStay }
     ensures split { RunsSplit }
 {
     true

@@ -90,8 +90,8 @@ impl<'a> Checker<'a> {
     }
 
     // The file is settled, and the answer is how many bytes are digested for it; a refusal hands the visit back.
-    // The precondition goes when the set's type carries the fact.
-    pub fn settle<S: DigestSink>(
+    // The precondition goes when the set's type carries the fact; until then this is no `pub` call.
+    fn settle<S: DigestSink>(
         &mut self,
         visit: Visit,
         sink: &mut S,
