@@ -1,56 +1,13 @@
 #!/usr/bin/env python3
-"""Makes crates/cases/stdin and stdout: images in base 16 with their names, and what reference.py says of each."""
+"""Makes crates/cases/stdin and stdout, images in base 16 with their names and what reference.py says of each, and crates/drvcheck/stdout."""
 import random
 import struct
-from pathlib import Path
+from collections import Counter
 
 import reference
-from reading import grouped, listed, quoted
-
-root = Path(__file__).resolve().parent.parent
-Z = b"0" * 32
-
-
-def path(name, digits=Z):
-    return b"/nix/store/" + digits + b"-" + name
-
-
-def image(files, first=1, nexts=None, count=None):
-    """files: (path, text) of slots 1, 2, ..; by default chained in that order."""
-    n = len(files)
-    at = 4 + 16 * n
-    nexts = nexts if nexts is not None else [i + 1 if i < n else 0 for i in range(1, n + 1)]
-    head = struct.pack("<HH", n if count is None else count, first if files else 0)
-    body = b""
-    for (p, text), following in zip(files, nexts):
-        head += struct.pack("<HHIII", following, len(p), at + len(body), at + len(body) + len(p), len(text))
-        body += p + text
-    return head + body
-
-
-def patched(img, at, form, *values):
-    out = bytearray(img)
-    struct.pack_into(form, out, at, *values)
-    return bytes(out)
-
-
-def derivation(outputs, inputs=(), sources=(), arguments=(), environment=()):
-    """Rows as they are given, in any order."""
-    fields = [
-        listed(grouped(map(quoted, row)) for row in outputs),
-        listed(grouped([quoted(p), listed(map(quoted, names))]) for p, names in inputs),
-        listed(map(quoted, sources)),
-        quoted(b"x86_64-linux"),
-        quoted(b"/bin/sh"),
-        listed(map(quoted, arguments)),
-        listed(grouped(map(quoted, row)) for row in environment),
-    ]
-    return b"Derive(" + b",".join(fields) + b")"
-
-
-def output(name=b"out", algorithm=b"", given=b""):
-    return [name, path(b"stated"), algorithm, given]
-
+import right_paths
+from images import Forge, Z, derivation, image, made_by_nix, output, patched, path, root
+from sets import OUT, absent, forge, sets
 
 two = image([(path(b"a.drv"), b"text a"), (path(b"b.drv"), b"text b")])
 three = [(path(b"%d.drv" % i), b"t%d" % i) for i in range(3)]
@@ -126,7 +83,110 @@ for i in range(12):
 for cut in (5, 19, 20, 21, 35, 36, 37, 84, 85, 90, len(two) - 1):
     cases[f"truncated-to-{cut}"] = two[:cut]
 
+sample = bytes.fromhex("0100010000003100140000004500000000000000")
+cases["sample"] = sample + path(b"a.drv")
+
+cases |= {name: image(files) for name, (_, files) in sets.items()}
+
+made = made_by_nix()
+random.seed(181)
+for name, files in made.items():
+    cases[f"nix-{name}"] = image(files)
+    cases[f"nix-{name}-shuffled"] = image(random.sample(files, len(files)))
+    if name not in ("chain60", "diamond"):
+        cases[f"nix-{name}-without-one"] = image(random.sample(files, len(files) - 1))
+
+
+def closure(files, wanted):
+    """The files of a set that some of its files rest on, and those themselves."""
+    texts, found = dict(files), list(wanted)
+    for stored in found:
+        found += [other for other, _ in right_paths.File(texts[stored]).inputs if other not in found]
+    return [(stored, texts[stored]) for stored in found]
+
+
+def damaged(img):
+    """With one byte changed."""
+    at = random.randrange(len(img))
+    byte = random.choice([img[at] ^ 1, random.choice(b'"\\,()[]nrt0a-. /'), random.randrange(256)])
+    return img[:at] + bytes([byte]) + img[at + 1:]
+
+
+def one_changed(files):
+    """A digit or a name's byte, changed in some path that a file states, so that it reads as before."""
+    k = random.randrange(len(files))
+    stored, text = files[k]
+    at = random.choice([i for i in range(len(text)) if text.startswith(b"/nix/store/", i)]) + 11 + random.randrange(36)
+    other = text[:at] + bytes([text[at] ^ 1]) + text[at + 1:]
+    return files[:k] + [(stored, other)] + files[k + 1:]
+
+
+small = [closure(files, [random.choice(files)[0]]) for files in made.values() for _ in range(9)]
+small = [files for files in small if sum(len(text) for _, text in files) < 2500]
+for i in range(160):
+    cases[f"nix-damaged-{i}"] = damaged(image(random.choice(small)))
+for i in range(80):
+    cases[f"nix-changed-{i}"] = image(one_changed(random.choice(small)))
+
+
+def some_of(names):
+    return sorted(random.sample(names, random.randrange(1, len(names) + 1)))
+
+
+def random_set():
+    """Files that name each other, themselves and files that are not there; most of them at their right paths."""
+    forge, files = Forge(), []
+    loose = [path(b"l%d.drv" % i) for i in range(2)]
+    for i in range(random.randrange(1, 8)):
+        known = {stored: [row[0] for row in right_paths.File(text).outputs] for stored, text in files}
+        right = [stored for stored in known if stored in forge.hashes]
+        near = random.sample(right, min(len(right), random.randrange(4)))
+        outputs = random.sample([b"out", b"dev", b"bin"], random.choice([1, 1, 2, 3]))
+        if random.random() < 0.75:
+            files.append(forge.file(b"f%d.drv" % i, sorted(outputs), sorted((stored, some_of(known[stored])) for stored in near)))
+        else:
+            named = random.sample([absent, *loose, *known], random.randrange(1, min(4, 3 + len(known)) + 1))
+            rows = [(stored, some_of(known.get(stored, OUT) if random.random() < 0.8 else [b"out", b"dev", b"bin"])) for stored in named]
+            stored = random.choice([path(b"g%d.drv" % i), *[p for p in loose if p not in known]])
+            files.append((stored, derivation([output(n) for n in outputs], rows)))
+    return random.sample(files, len(files))
+
+
+for i in range(160):
+    img = image(random_set())
+    cases[f"set-{i}"] = img if i % 4 else damaged(img)
+
+# a chain as long as an input may be, the last file first
+chain = [forge.file(b"0.drv")]
+while len(image(chain)) < 65535 - 400:
+    chain.append(forge.file(b"%d.drv" % len(chain), inputs=[(chain[-1][0], OUT)]))
+cases["long-chain-turned"] = image(chain[::-1])
+wide = [forge.file(b"w%d.drv" % i) for i in range(64)]
+cases["inputs-64"] = image([forge.file(b"wide.drv", inputs=sorted((stored, OUT) for stored, _ in wide))] + wide)
+
+# sets of derivations made by Nix, of which tests/nix/make_images.py knows the number that each file gets
+for line in (root / "tests/nix/images.txt").read_text().splitlines():
+    name, digits = line.split(" ")
+    cases[f"made-by-nix-{name}"] = bytes.fromhex(digits)
+
+lines, answers, told = [], [], Counter()
+for name, img in cases.items():
+    said = reference.report(img)
+    lines.append(b"%s %s\n" % (name.encode(), img.hex().encode()))
+    answers.append(b"%s\n%s" % (name.encode(), said))
+    rows = [row.split() for row in said.decode().splitlines()]
+    numbers = [row[1] for row in rows if rows[0][0] == "refused" or len(row) == 6]
+    told.update(numbers)
+    if name in sets:
+        assert " ".join(numbers) == sets[name][0], (name, said)
+    if name.startswith("nix-") and name[4:].removesuffix("-shuffled") in made and "equal" not in name:
+        assert set(numbers) == {"0"}, name
+# every number but 1 is told somewhere
+assert set(told) == set(map(str, [0, *range(2, 8), *range(11, 25)])), told
+
 out = root / "crates/cases"
-(out / "stdin").write_bytes(b"".join(b"%s %s\n" % (n.encode(), i.hex().encode()) for n, i in cases.items()))
-(out / "stdout").write_bytes(b"".join(b"%s\n%s" % (n.encode(), reference.listing(i)) for n, i in cases.items()))
-print(len(cases), "cases")
+(out / "stdin").write_bytes(b"".join(lines))
+(out / "stdout").write_bytes(b"".join(answers))
+drvcheck = root / "crates/drvcheck"
+(drvcheck / "stdout").write_bytes(reference.report((drvcheck / "stdin").read_bytes()))
+print(len(cases), "cases,", sum(map(len, lines)), "bytes; told", *(f"{n}: {told[n]}" for n in sorted(told, key=int)))

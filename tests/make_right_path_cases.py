@@ -9,7 +9,7 @@ from pathlib import Path
 
 import reading
 import right_paths
-from reading import meaning
+from right_paths import verdict
 
 root = Path(__file__).resolve().parent.parent
 crate = root / "crates" / "right_path_cases"
@@ -25,33 +25,6 @@ def derivations():
             sets[part][bytes.fromhex(path)] = bytes.fromhex(text)
             names[part, bytes.fromhex(path)] = name
     return sets, names
-
-
-def wrong_variable(fields, right):
-    """23: where the environment has an output's name with another path, or not at all."""
-    variables = [(i, place, meaning(row[0]), meaning(row[1])) for i, (place, row) in enumerate(fields[6], 1)]
-    for _, row in fields[0]:
-        output = meaning(row[0])
-        i, place, _, value = next((v for v in variables if v[2] == output), (0, 0, output, None))
-        if value != right[output]:
-            return 7, i, place
-
-
-def verdict(path, text, worked):
-    """The first no to the questions 21 to 24, as the five numbers that it is told by; five zeros where the file is accepted."""
-    fields = reading.Text(text).whole()
-    outputs = [(meaning(row[0]), meaning(row[1])) for _, row in fields[0]]
-    right = dict(zip(sorted(output for output, _ in outputs), worked.outputs))
-    if worked.own != path:
-        return 21, 5, 0, 0, 0
-    for i, (output, stated) in enumerate(outputs, 1):
-        if stated != right[output]:
-            return 22, 5, 1, i, fields[0][i - 1][0]
-    found = wrong_variable(fields, right)
-    if found:
-        return (23, 5) + found
-    place = reading.first_difference(text, reading.canonical(text))
-    return (0, 0, 0, 0, 0) if place is None else (24, 5, 0, 0, place)
 
 
 def answer(path, text, worked):

@@ -1,12 +1,10 @@
 #!/usr/bin/env python3
 """A second, independent reading of docs/FORMATS.md: what drvcheck prints of an image. reference.py < IMAGE"""
-import hashlib
 import re
 import struct
 import sys
 
-import reading
-import right_paths
+import checking
 
 NAME = re.compile(rb"[0-9a-zA-Z+\-_?=][0-9a-zA-Z+\-._?=]{0,210}")
 PATH = re.compile(rb"/nix/store/[0-9abcdfghijklmnpqrsvwxyz]{32}-(.*)", re.S)
@@ -48,27 +46,10 @@ def open_image(img):
     return [(path, text) for _, path, text in files], None
 
 
-def alone(path, text):
-    """The right paths of a file that reads, where it has no input rows."""
-    file = right_paths.File(text)
-    if file.inputs:
-        return []
-    worked = right_paths.Worked(path, file, {})
-    return [worked.own] + worked.outputs
-
-
-def listing(img):
+def report(img):
     files, refused = (None, (2, 0)) if len(img) > 65535 else open_image(img)
-    if refused:
-        return b"refused %d %d\n" % refused
-    out = b""
-    for k, (path, text) in enumerate(files, 1):
-        fault = reading.fault(path, text)
-        told = b"%d %d %d %d %d" % (fault or (0, 0, 0, 0, 0))
-        out += b"%d %s %s %s\n" % (k, told, hashlib.sha256(text).hexdigest().encode(), path)
-        out += b"".join(b"%d path %d %s\n" % (k, j, right) for j, right in enumerate([] if fault else alone(path, text)))
-    return out + b"files %d\n" % len(files)
+    return b"refused %d %d\n" % refused if refused else checking.report(files)
 
 
 if __name__ == "__main__":
-    sys.stdout.buffer.write(listing(sys.stdin.buffer.read()))
+    sys.stdout.buffer.write(report(sys.stdin.buffer.read()))

@@ -13,8 +13,13 @@ from reading import grouped, listed, meaning, quoted
 DIGITS = b"0123456789abcdfghijklmnpqrsvwxyz"
 
 
-def digest(b):
+def sha256(b):
     return hashlib.sha256(b).digest()
+
+
+def zeros(b):
+    """The digest that is the same for all strings."""
+    return bytes(32)
 
 
 def to_hex(b):
@@ -37,10 +42,6 @@ def fold(bs):
 
 def path_string(kind, hashed, name):
     return kind + b":sha256:" + hashed + b":/nix/store:" + name
-
-
-def made_path(string, name):
-    return b"/nix/store/" + base32(fold(digest(string))) + b"-" + name
 
 
 class File:
@@ -71,14 +72,18 @@ class File:
 
 
 class Worked:
-    """What is digested for the file at a path, where `hashes` has the hashes of its inputs, and what comes of it."""
+    """What is digested for the file at a path, where `hashes` has the hashes of its inputs, and what comes of it.
 
-    def __init__(self, path, file, hashes):
+    `own_strings` are digested for its own path alone, `output_strings[i]` for that of its output i alone, both counted from 0.
+    """
+
+    def __init__(self, path, file, hashes, digest=sha256):
         name = path[44:]
-        self.strings = []
+        self.strings, self.digest = [], digest
         references = sorted({p for p, _ in file.inputs} | set(file.sources))
         kind = b"text" + b"".join(b":" + r for r in references)
         self.own = self.located(kind, to_hex(self.digested(file.text())), name)
+        self.own_strings = list(self.strings)
         if file.fixed:
             self.work_fixed(file.outputs[0], name[:-4], file)
         else:
@@ -87,12 +92,11 @@ class Worked:
 
     def digested(self, string):
         self.strings.append(string)
-        return digest(string)
+        return self.digest(string)
 
     def located(self, kind, hashed, name):
-        string = path_string(kind, hashed, name)
-        self.strings.append(string)
-        return made_path(string, name)
+        digits = base32(fold(self.digested(path_string(kind, hashed, name))))
+        return b"/nix/store/" + digits + b"-" + name
 
     def work_fixed(self, only, stem, file):
         _, stated, algorithm, given = only
@@ -102,6 +106,7 @@ class Worked:
             self.outputs = [self.located(b"source", given, stem)]
         else:
             self.outputs = [self.located(b"output:out", to_hex(self.digested(inner)), stem)]
+        self.output_strings = [self.strings[len(self.own_strings) + 1:]]
 
     def work_text(self, file, rows, stem):
         self.hash = self.digested(file.text(inputs=rows))
@@ -109,9 +114,38 @@ class Worked:
         outputs = [[n, b"", algorithm, given] for n, _, algorithm, given in file.outputs]
         environment = [[n, b"" if n in names else v] for n, v in file.environment]
         self.masked = self.digested(file.text(outputs, rows, environment))
+        text = self.strings[-1]
         self.outputs = [
             self.located(b"output:" + n, to_hex(self.masked), stem if n == b"out" else stem + b"-" + n) for n, _, _, _ in file.outputs
         ]
+        self.output_strings = [[text, string] for string in self.strings[-len(file.outputs):]]
+
+
+def wrong_variable(fields, right):
+    """23: where the environment has an output's name with another path, or not at all."""
+    variables = [(i, place, meaning(row[0]), meaning(row[1])) for i, (place, row) in enumerate(fields[6], 1)]
+    for _, row in fields[0]:
+        output = meaning(row[0])
+        i, place, _, value = next((v for v in variables if v[2] == output), (0, 0, output, None))
+        if value != right[output]:
+            return 7, i, place
+
+
+def verdict(path, text, worked):
+    """The first no to the questions 21 to 24, as the five numbers that it is told by; five zeros where the file is accepted."""
+    fields = reading.Text(text).whole()
+    outputs = [(meaning(row[0]), meaning(row[1])) for _, row in fields[0]]
+    right = dict(zip(sorted(output for output, _ in outputs), worked.outputs))
+    if worked.own != path:
+        return 21, 5, 0, 0, 0
+    for i, (output, stated) in enumerate(outputs, 1):
+        if stated != right[output]:
+            return 22, 5, 1, i, fields[0][i - 1][0]
+    found = wrong_variable(fields, right)
+    if found:
+        return (23, 5) + found
+    place = reading.first_difference(text, reading.canonical(text))
+    return (0, 0, 0, 0, 0) if place is None else (24, 5, 0, 0, place)
 
 
 def in_order(files):

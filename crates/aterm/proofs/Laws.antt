@@ -9,10 +9,10 @@ use Rattle.aterm.specs.Reads.{Allowed, Because, Stops, beyond}
 abbrev pub Free : {X : Type 0} → (X → List Sign) → Type 0
 Free {X} w = (x y : X) (r s : List Sign) → w x ++ r ≡ w y ++ s → r ≡ s
 
-pub tail_eq : {a b : Sign} {r s : List Sign} → a ∷ r ≡ b ∷ s → r ≡ s
+pub tail_eq : {X : Type 0} {a b : X} {r s : List X} → a ∷ r ≡ b ∷ s → r ≡ s
 tail_eq e = cc
 
-head_eq : {a b : Sign} {r s : List Sign} → a ∷ r ≡ b ∷ s → a ≡ b
+pub head_eq : {X : Type 0} {a b : X} {r s : List X} → a ∷ r ≡ b ∷ s → a ≡ b
 head_eq e = cc
 
 pub not_nil : (c : Sign) (p q : List Sign) → p ++ c ∷ q ≡ [] → ⊥

@@ -9,7 +9,7 @@ use Rattle.aterm.specs.Grammar.{Sign, byte, over, end, signs, Shape, list, Tree,
 use Rattle.aterm.specs.Reads.{Allowed, Because, Stops, Written, Answers, Next, Each, past, beyond, written_row}
 use Rattle.aterm.proofs.Laws.{tail_eq, Free, Starts, After, stop_start, stop_after, sign_at, sign_end, reach}
 use Rattle.aterm.proofs.Free.{free_write, some_tree, opener_close, not_close}
-use Rattle.aterm.proofs.Parts.{stop_next, step_next}
+use Rattle.aterm.proofs.Parts.{stop_next, step_next, step_opener}
 
 -- the row after k rows begins here: the first at once, and another after a comma
 abbrev pub Begins : List ℕ → ℕ → ℕ → ℕ → Type 0
@@ -37,15 +37,12 @@ module _ (s : Shape) where
     pub row_open : (f : Fault) → Next b t at (Err f) → Stops (written_row s m) (drop at (signs t)) at f.place f.cause
     row_open f n = stop_next (written_row s m) m (opener s) (some_tree s) (λ z. (write s z, refl)) t at h f (subst (λ c. Next c t at (Err f)) is n)
 
-    step : (inside : ℕ) → Next b t at (Ok inside) → drop at (signs t) ≡ (byte (opener s) ∷ []) ++ drop inside (signs t)
-    step inside n = step_next b t at inside n ∙ ap (λ c. byte c ∷ drop inside (signs t)) is
-
     full : (inside : ℕ) → Next b t at (Ok inside) → Stops (written_row s 0) (drop at (signs t)) at at Row
     full inside n = record {
       before = [];
       sign = byte (opener s);
       after = drop inside (signs t);
-      whole = step inside n;
+      whole = step_opener s t at b is inside n;
       at = omega arith;
       viable = (over (opener s), (some_tree s, write s (some_tree s), refl));
       stops = λ a. let e = a.2 in cc;
@@ -59,11 +56,11 @@ module _ (s : Shape) where
       pub row_rest : (r : Result (V × ℕ) Fault) → Answers (write s) (H inside) t inside r → Answers (written_row s m) (H (at + 1)) t at r
       row_rest (Ok v) w = record {
         tree = w.tree;
-        whole = step inside n ∙ ap (λ l. byte (opener s) ∷ l) w.whole ∙ ap (λ l. l ++ drop v.1 (signs t)) (sym (beginning m some w.tree));
+        whole = step_opener s t at b is inside n ∙ ap (λ l. byte (opener s) ∷ l) w.whole ∙ ap (λ l. l ++ drop v.1 (signs t)) (sym (beginning m some w.tree));
         inside = w.inside;
         held = subst (λ p. H p v.0 w.tree) n.0 w.held;
       }
-      row_rest (Err f) st = stop_after (after_begin m some) (step inside n) (sym n.0) st
+      row_rest (Err f) st = stop_after (after_begin m some) (step_opener s t at b is inside n) (sym n.0) st
 
       pub row_room : (r : Result (V × ℕ) Fault) → Answers (write s) (H inside) t inside r → IfOk r (λ v. (0 < m) × (at < v.1))
       row_room (Ok v) w = (some, omega (arith, n.0, n.1, reach t (write s w.tree) inside v.1 w.whole (omega (arith, n.0, n.1)) w.inside))

@@ -33,6 +33,9 @@ stop_next W m b z all t at h f n =
 pub step_next : (b : ℕ) (t : List ℕ) (at next : ℕ) → Next b t at (Ok next) → drop at (signs t) ≡ byte b ∷ drop next (signs t)
 step_next b t at next n = sign_at t at n.1 ∙ ap (λ c. byte c ∷ drop (at + 1) (signs t)) n.2 ∙ ap (λ i. byte b ∷ drop i (signs t)) (sym n.0)
 
+pub step_opener : (s : Shape) (t : List ℕ) (at b : ℕ) → b ≡ opener s → (inside : ℕ) → Next b t at (Ok inside) → drop at (signs t) ≡ (byte (opener s) ∷ []) ++ drop inside (signs t)
+step_opener s t at b is inside n = step_next b t at inside n ∙ ap (λ c. byte c ∷ drop inside (signs t)) is
+
 module _ (s : Shape) (k : ℕ) where
   rest_of : Tree s → List Sign
   rest_of x = write s x ++ byte k ∷ []
@@ -56,24 +59,21 @@ module _ (s : Shape) (k : ℕ) where
     pub field_open : (f : Fault) → Next b t at (Err f) → Stops (written_field s k) (drop at (signs t)) at f.place f.cause
     field_open f n = stop_next (written_field s k) 1 (opener s) (some_tree s) (λ z. (_, refl)) t at h f (subst (λ c. Next c t at (Err f)) is n)
 
-    step : (inside : ℕ) → Next b t at (Ok inside) → drop at (signs t) ≡ (byte (opener s) ∷ []) ++ drop inside (signs t)
-    step inside n = step_next b t at inside n ∙ ap (λ c. byte c ∷ drop inside (signs t)) is
-
     pub field_body : (inside : ℕ) → Next b t at (Ok inside) → (f : Fault) → Stops (write s) (drop inside (signs t)) inside f.place f.cause → Stops (written_field s k) (drop at (signs t)) at f.place f.cause
-    field_body inside n f st = stop_after after_open (step inside n) (sym n.0) (stop_start (free_write s) starts st)
+    field_body inside n f st = stop_after after_open (step_opener s t at b is inside n) (sym n.0) (stop_start (free_write s) starts st)
 
     module _ (H : ℕ → Tree s → Type 0) (inside : ℕ) (n : Next b t at (Ok inside)) (stop : ℕ) (wr : Written (write s) (H inside) t inside stop) where
       pub field_close : (f : Fault) → Next k t stop (Err f) → Stops (written_field s k) (drop at (signs t)) at f.place f.cause
       unfolding close
       field_close f m =
-          stop_after after_open (step inside n) (sym n.0)
+          stop_after after_open (step_opener s t at b is inside n) (sym n.0)
           (stop_after (after_body wr.tree) wr.whole (reach t (write s wr.tree) inside stop wr.whole (omega (arith, n.0, n.1)) wr.inside)
           (stop_next close 1 k tt (λ z. ([], refl)) t stop wr.inside f m))
 
       pub field_done : (next : ℕ) → Next k t stop (Ok next) → Written (written_field s k) (H (at + 1)) t at next
       field_done next m = record {
         tree = wr.tree;
-        whole = step inside n ∙ ap (λ l. byte (opener s) ∷ l) (wr.whole ∙ ap (λ l. write s wr.tree ++ l) (step_next k t stop next m) ∙ sym (append_assoc (write s wr.tree) (byte k ∷ []) (drop next (signs t))));
+        whole = step_opener s t at b is inside n ∙ ap (λ l. byte (opener s) ∷ l) (wr.whole ∙ ap (λ l. write s wr.tree ++ l) (step_next k t stop next m) ∙ sym (append_assoc (write s wr.tree) (byte k ∷ []) (drop next (signs t))));
         inside = omega (arith, m.0, m.1);
         held = subst (λ p. H p wr.tree) n.0 wr.held;
       }

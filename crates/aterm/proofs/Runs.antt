@@ -6,6 +6,7 @@ use Rattle.std.proofs.lemmas.Iterator.{YieldsList}
 use Rattle.std.specs.Iterator.{AlwaysYields, YieldsThen, ComparesItemsByEq}
 use Rattle.std.specs.Option.{MatchOption, IfSome}
 use Rattle.std.specs.List.{AllZip}
+use Rattle.aterm.proofs.Laws.{head_eq}
 
 -- what a run says of the list: it is all of it, or its beginning, and the item that came next
 abbrev pub Shown : List ℕ → List ℕ → Option ℕ → Type 0
@@ -46,15 +47,12 @@ longer : (zs : List ℕ) (y : ℕ) (rest : List ℕ) → zs ≡ zs ++ y ∷ rest
 longer [] y rest e = cc
 longer (z ∷ zs) y rest e = longer zs y rest (cc)
 
-head_is : (x y : ℕ) (xs ys : List ℕ) → x ∷ xs ≡ y ∷ ys → x ≡ y
-head_is x y xs ys e = cc
-
 same_or_not : (xs ys zs : List ℕ) (o p : Option ℕ) (r : Bool) → Shown xs zs o → Shown ys zs p → Last r o p → Decides r (xs ≡ ys)
 same_or_not xs ys zs None None r h k l = (λ _. h ∙ sym k, λ _. l)
 same_or_not xs ys zs None (Some y) r h k l = refuted r l (λ e. longer zs y k.0 (sym h ∙ e ∙ k.1))
 same_or_not xs ys zs (Some x) None r h k l = refuted r l.0 (λ e. longer zs x h.0 (sym k ∙ sym e ∙ h.1))
 same_or_not xs ys zs (Some x) (Some y) r h k l =
-    refuted r l.0 (λ e. eqb-false x y l.1 (head_is x y h.0 k.0 (append_cancel_left zs (x ∷ h.0) (y ∷ k.0) (sym h.1 ∙ e ∙ k.1))))
+    refuted r l.0 (λ e. eqb-false x y l.1 (head_eq (append_cancel_left zs (x ∷ h.0) (y ∷ k.0) (sym h.1 ∙ e ∙ k.1))))
 
 -- `eq` of two iterators says whether they give the same
 pub eq_decides : {S T U : Type 0} (steps : S → Option ℕ → S → Type 0) (becomes : U → T → Type 0) (others : T → Option ℕ → T → Type 0) (s : S) (other : U) (xs ys : List ℕ)

@@ -12,7 +12,7 @@ use Rattle.canonical.specs.Kinds.{Kind, text, entry, ordered, rising, Kinds, one
 use Rattle.canonical.specs.Meanings.{a_derivation, Meaning, canonical}
 use Rattle.canonical.proofs.Members.{total, total_rising}
 
-spells_short : (b : ℕ) → length (spells b) ≤ 2
+pub spells_short : (b : ℕ) → length (spells b) ≤ 2
 spells_short b =
     let P : List ℕ → Type 0 = λ l. length l ≤ 2 in
     cond_both (eqb b 34) _ _ P (λ _. omega arith) (λ _.
@@ -26,24 +26,26 @@ string_short [] = omega arith
 string_short (plain c o ∷ cs) = let h = string_short cs in let s = spells_short c in let l = length-append (spells c) (flat_map spells (meaning cs)) in omega arith
 string_short (escaped c ∷ cs) = let h = string_short cs in let s = spells_short (escape c) in let l = length-append (spells (escape c)) (flat_map spells (meaning cs)) in omega arith
 
-module _ {V T : Type 0} (g : V → List ℕ) (w : T → List Sign) where
-  abbrev row_out : V → ℕ
-  row_out v = length (g v) + 1
+-- rows between brackets
+module _ {V : Type 0} (g : V → List ℕ) where
+  abbrev pub wide : V → ℕ
+  wide v = length (g v) + 1
 
-  abbrev row_in : T → ℕ
-  row_in t = length (w t) + 2
-
-  joined_length : (vs : List V) → length (flat_map (comma g) vs) ≡ total row_out vs
+  pub joined_length : (vs : List V) → length (flat_map (comma g) vs) ≡ total wide vs
   joined_length [] = refl
   joined_length (v ∷ vs) = let h = joined_length vs in let l = length-append (comma g v) (flat_map (comma g) vs) in omega arith
 
-  listing_length : (vs : List V) → length (listing g vs) ≤ 2 + total row_out vs
+  pub listing_length : (vs : List V) → length (listing g vs) ≤ 2 + total wide vs
   listing_length [] = omega arith
   listing_length (v ∷ vs) =
       let h = joined_length vs in
       let l = length-append (g v) (flat_map (comma g) vs ++ (93 ∷ [])) in
       let m = length-append (flat_map (comma g) vs) (93 ∷ []) in
       omega arith
+
+module _ {V T : Type 0} (g : V → List ℕ) (w : T → List Sign) where
+  abbrev row_in : T → ℕ
+  row_in t = length (w t) + 2
 
   more_length : (o n : ℕ) (ts : List T) → length (more o w n ts) ≡ total row_in ts + 1
   more_length o n [] = refl
@@ -53,7 +55,7 @@ module _ {V T : Type 0} (g : V → List ℕ) (w : T → List Sign) where
   rows_length o n [] = omega arith
   rows_length o n (t ∷ ts) = let h = more_length o (pred n) ts in let l = length-append (w t) (more o w (pred n) ts) in omega arith
 
-  rows_short : (M : T → V → Type 0) → ((t : T) (v : V) → M t v → length (g v) ≤ 2 * (length (w t) + 1)) → (ts : List T) (vs : List V) → Along M ts vs → total row_out vs ≤ 2 * total row_in ts
+  rows_short : (M : T → V → Type 0) → ((t : T) (v : V) → M t v → length (g v) ≤ 2 * (length (w t) + 1)) → (ts : List T) (vs : List V) → Along M ts vs → total (wide g) vs ≤ 2 * total row_in ts
   rows_short M h [] [] p = omega arith
   rows_short M h [] (v ∷ vs) p = absurd p
   rows_short M h (t ∷ ts) [] p = absurd p
@@ -70,15 +72,15 @@ mutual
       omega arith
   short (entry ks) t v p = let h = short_all ks t v p in omega arith
   short (ordered n k) t v p =
-      let a = listing_length (canon k) (write (shape k)) v in
+      let a = listing_length (canon k) v in
       let b = rows_short (canon k) (write (shape k)) (Means k) (short k) t v p in
       let c = rows_length (canon k) (write (shape k)) (opener (shape k)) n t in
       omega arith
   short (rising n k) t v p =
-      let a = listing_length (canon k) (write (shape k)) v in
+      let a = listing_length (canon k) v in
       let b = rows_short (canon k) (write (shape k)) (Means k) (short k) t p.0 p.1.0 in
       let c = rows_length (canon k) (write (shape k)) (opener (shape k)) n t in
-      let d = total_rising (key k) (λ x. length (canon k x) + 1) v p.0 p.1.1.rises p.1.1.same.back in
+      let d = total_rising (key k) (wide (canon k)) v p.0 p.1.1.rises p.1.1.same.back in
       omega arith
 
   short_all : (ks : Kinds) (t : Trees (shapes ks)) (v : Values ks) → MeansAll ks t v → length (canons ks v) + 1 ≤ 2 * length (writes (shapes ks) t)

@@ -1,5 +1,5 @@
 -- Lists with the same rows.
-use Rattle.std.proofs.Common.{◌≡◌, ℕ, ◌+◌, ◌≤◌, List, [], ◌∷◌, length, sym, refl, ap, ◌∙◌, subst, inl, inr, ⊎_elim, arith}
+use Rattle.std.proofs.Common.{◌≡◌, ℕ, zero, suc, ◌+◌, ◌<◌, ◌≤◌, List, [], ◌∷◌, length, get_or, sym, refl, ap, ◌∙◌, subst, inl, inr, ⊎_elim, arith}
 use Rattle.std.specs.List.{AllByRecursion}
 use Rattle.canonical.specs.Order.{Under, Member, Same, Rising}
 use Rattle.canonical.proofs.Orders.{under_not_self, under_trans}
@@ -12,6 +12,16 @@ member_all P (y ∷ xs) x a (inr m) = member_all P xs x a.1 m
 pub all_from_member : {X : Type 0} (P : X → Type 0) (xs : List X) → ((x : X) → Member x xs → P x) → AllByRecursion P xs
 all_from_member P [] h = tt
 all_from_member P (x ∷ xs) h = (h x (inl refl), all_from_member P xs (λ y m. h y (inr m)))
+
+pub member_at : {X : Type 0} (xs : List X) (i : ℕ) (d : X) → i < length xs → Member (get_or xs i d) xs
+member_at [] i d h = absurd (omega arith)
+member_at (x ∷ xs) zero d h = inl refl
+member_at (x ∷ xs) (suc i) d h = inr (member_at xs i d (omega arith))
+
+pub place_of : {X : Type 0} (xs : List X) (d x : X) → Member x xs → (i : ℕ) × (i < length xs) × (get_or xs i d ≡ x)
+place_of [] d x m = absurd m
+place_of (y ∷ xs) d x (inl e) = (0, omega arith, sym e)
+place_of (y ∷ xs) d x (inr m) = let w = place_of xs d x m in (suc w.0, omega (arith, w.1), w.2)
 
 pub same_refl : {X : Type 0} (xs : List X) → Same xs xs
 same_refl xs = record { there = λ x m. m; back = λ x m. m }

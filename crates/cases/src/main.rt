@@ -1,8 +1,8 @@
-// Images in base 16, one a line after a name, and what is listed of each: the cases stand in stdin, what is expected in stdout.
+// Images in base 16, one a line after a name, and the report of each: the cases stand in stdin, what is expected in stdout.
 #![tactic(auto)]
 
-use listing_text::listing_of;
 use recorder::Recorder;
+use report_text::report_of;
 use sha256::Sha256;
 use test_input::{decode, each_line};
 
@@ -10,9 +10,9 @@ fn show(rt: &HostRuntime, line: &str) -> anyhow::Result<()> {
     let (name, digits) = line.split_once(' ').unwrap_or((line, ""));
     let image = decode(rt.alloc(), digits.as_bytes())?;
     let mut digest = Recorder::new(Sha256::new());
-    let listing = listing_of(rt.alloc(), &mut digest, &image)?;
+    let report = report_of(rt.alloc(), &mut digest, &image)?;
     println!(rt; "{name}")?;
-    rt.write_all(&listing)?;
+    rt.write_all(&report)?;
     Ok(())
 }
 

@@ -2,7 +2,6 @@
 use Rattle.std.proofs.Common.{ℕ, ◌≤◌, eqb, cond, List, ◌++◌, length, drop, Ok, Err, Option, Result, refl, inl, inr}
 use Rattle.std.proofs.lemmas.Bool.{cond-true, cond-false, eq-eqb, ne_eqb}
 use Rattle.canonical.specs.Meanings.{canonical}
-use Rattle.hash_modulo.specs.Laws.{Wide}
 use Rattle.hash_modulo.proofs.Choosing.{readable?}
 use Rattle.hash_modulo.proofs.Hashes.{is_hashable}
 use Rattle.image.specs.Opening.{Opens}
@@ -18,7 +17,7 @@ use Rattle.checker.specs.declared.state.State.{State}
 use Rattle.checker.specs.declared.state.State.TheVariants.{Pending, Taken, Settled}
 use Rattle.checker.proofs.Circling.{on_cycle}
 use Rattle.checker.proofs.Deciding.{open?, exists?, pending_at?, taken_at?, has_hash?, has_output?, ready_file?, lowest_file?}
-use Rattle.checker.proofs.Locating.{settle_decides, located, path_held}
+use Rattle.checker.proofs.Locating.{digest_wide, settle_decides, located, path_held}
 
 -- the view with one file in another state
 abbrev changed : View → ℕ → State → View
@@ -59,13 +58,13 @@ module _ (v : View) where
 
   -- ---- settle and put back
 
-  settles : (kind : Kind) → Opens v.image v.count → Wide (D kind) → (k : ℕ) (before : sinks.Meaning)
+  settles : (kind : Kind) → Opens v.image v.count → (k : ℕ) (before : sinks.Meaning)
       → (r : Result ℕ CallRefusal) × (w : View) × (after : sinks.Meaning) × Settles kind v k before r w after
-  settles kind image wide k before = elim (open? v) [
+  settles kind image k before = elim (open? v) [
     | inr n ↦ (Err NotOpened, v, before, (inl (n, refl), refl, refl))
     | inl o ↦ elim (taken_at? v k) [
       | inr n ↦ (Err NotTaken, v, before, (inr (o, inl (n, refl)), refl, refl))
-      | inl t ↦ (let d = settle_decides kind v image wide k t.exists before in
+      | inl t ↦ (let d = settle_decides kind v image (digest_wide kind) k t.exists before in
           (Ok d.count, changed v k (Settled d.settlement), d.after, (d.settlement, o, t, changes v k (Settled d.settlement), d.decides)))
     ]
   ]

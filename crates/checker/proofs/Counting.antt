@@ -7,11 +7,11 @@ use Rattle.checker.specs.Theorem.{CountIsRise}
 use Rattle.checker.specs.declared.state.Hashes.{Hashes}
 
 -- nothing is added to a total below 2 ^ 64
-stays : (a b n : ℕ) → a < 2 ^ 64 → b ≡ a → n ≡ 0 → b ≡ (a + n) % (2 ^ 64)
+pub stays : (a b n : ℕ) → a < 2 ^ 64 → b ≡ a → n ≡ 0 → b ≡ (a + n) % (2 ^ 64)
 stays a b n low same none = omega arith
 
 -- with a hash the strings' lengths are added, and without one the sink stays as it was
-risen : (kind : Kind) (set : Files) (p : Bytes) (before after : sinks.Meaning) (n : ℕ) (o : Option Hashes) → before.total < 2 ^ 64
+pub risen : (kind : Kind) (set : Files) (p : Bytes) (before after : sinks.Meaning) (n : ℕ) (o : Option Hashes) → before.total < 2 ^ 64
     → Outcome kind set p before n after o → after.total ≡ (before.total + n) % (2 ^ 64)
 risen kind set p before after n o low (with_hash h ss e x m g c l) = l.total ∙ ap (λ (k : ℕ). (before.total + k) % (2 ^ 64)) (sym c)
 risen kind set p before after n o low (without e none c same) = stays before.total after.total n low (ap (λ (m : sinks.Meaning). m.total) same) c

@@ -302,10 +302,10 @@ decides_here kind v opens sound k taken l file text here a linked before after s
     (links_right v.image v.count (path_at v k) text l file a linked) (counted v.image v.count (path_at v k) text l file a linked) before after s count r
 
 -- the same at the path as it is known otherwise
-pub decides_at : (kind : Kind) (v : View) (l : Links) (file : Derivation) (path text : Bytes) → Accepted path text file → RowsLinked v.image v.count path text l
+pub decides_at : (kind : Kind) (v : View) → Opens v.image v.count → (l : Links) (file : Derivation) (path text : Bytes) → Accepted path text file → RowsLinked v.image v.count path text l
     → (before after : sinks.Meaning) (s : Settlement) (count : ℕ) → ReadSettled kind v l (rows_of file.inputs) path text before s count after
     → ReadDecided kind v path text before s count after
-decides_at kind v l file path text a linked before after s count r opens sound k taken e here =
+decides_at kind v opens l file path text a linked before after s count r sound k taken e here =
     subst (λ (q : Bytes). Decides kind (files v) q s before count after) e
     (decides_here kind v opens sound k taken l file text (ap (files v) e ∙ here)
     (subst (λ (q : Bytes). Accepted q text file) (sym e) a)
@@ -316,7 +316,7 @@ decides_at kind v l file path text a linked before after s count r opens sound k
 -- a file that does not read
 pub unread_at : (kind : Kind) (v : View) (path text : Bytes) (f : FileFault) → IsFileFault path text f → (before : sinks.Meaning)
     → ReadDecided kind v path text before (record { verdict = Err (fault.Reading f); hashes = None }) 0 before
-unread_at kind v path text f is before opens sound k taken e here = record {
+unread_at kind v path text f is before sound k taken e here = record {
   verdict = judged.unread text here f is refl;
   outcome = without refl (λ y. none y) refl refl;
 }

@@ -4,12 +4,13 @@ use Rattle.std.proofs.lemmas.Bool.{cases_eq}
 use Rattle.canonical.specs.Meanings.{Meaning}
 use Rattle.hash_modulo.specs.Hashes.{Hashed}
 use Rattle.hash_modulo.specs.Sets.{Bytes, Files, Present, Means, Row, Names, Ready, Hashable, hashable}
-use Rattle.hash_modulo.proofs.Hashes.{one_meaning}
+use Rattle.hash_modulo.proofs.Founding.{hashable_ready}
+use Rattle.hash_modulo.proofs.Hashes.{one_meaning, is_hashable, inputs_hashable}
 use Rattle.image.specs.Opening.{Opens}
 use Rattle.links.proofs.Files.{set_only}
 use Rattle.sink.specs.Write as sinks
 use Rattle.checker.specs.Calls.{Kind, D, MaskedHash, NoneTaken, Chosen, first_ready, first_pending, Takes, Outcome, with_hash, without, Decides, Settles, PutsBack}
-use Rattle.checker.specs.Soundness.{RowRight, WaitingAt, NoneReady, SoundView}
+use Rattle.checker.specs.Soundness.{RowRight, WaitingAt, NoneReady, InputsHashedAt, SoundView}
 use Rattle.checker.specs.Views.{View, fresh, files, path_at, NumberOf, PendingAt, TakenAt, HashedAt, UnhashedAt, ReadyFile, early, spoilt, supplied, Changes}
 use Rattle.checker.specs.declared.refused.CallRefusal.{CallRefusal}
 use Rattle.checker.specs.declared.state.Hashes.{Hashes}
@@ -50,7 +51,7 @@ pub same_view : {v w : View} {k : ℕ} {s : State} → Changes v k s w → with_
 same_view {v} {w} c = λ i. record { opened = sym c.opened i; image = sym c.image i; count = sym c.count i; row = w.row }
 
 -- an input that is settled with a hash is so where all that was settled stays
-pub stays_supplied : (v : View) (row : ℕ → State) → ((j : ℕ) (s : Settlement) → v.row j ≡ Settled s → row j ≡ Settled s) → (r : Row)
+stays_supplied : (v : View) (row : ℕ → State) → ((j : ℕ) (s : Settlement) → v.row j ≡ Settled s → row j ≡ Settled s) → (r : Row)
     → (j : ℕ) × (h : Hashes) × NumberOf v r.0 j × HashedAt v j h → (j : ℕ) × (h : Hashes) × NumberOf (with_rows v row) r.0 j × HashedAt (with_rows v row) j h
 stays_supplied v row f r (j, h, a, u) = (
   j,
@@ -66,106 +67,6 @@ stays_ready v row f k (spoilt m e r o j a u) =
     spoilt m e r o j (record { exists = a.exists; is = a.is })
     (record { exists = u.exists; settlement = u.settlement; settled = f j u.settlement u.settled; is = u.is })
 stays_ready v row f k (supplied m e all) = supplied m e (λ r o. stays_supplied v row f r (all r o))
-
--- ---- open
-
-pub fresh_sound : (kind : Kind) (img : Bytes) (n : ℕ) → SoundView kind (fresh img n)
-fresh_sound kind img n = record {
-  right = λ k s x e. absurd (not_settled Pending s refl e);
-  one = λ j k a b. absurd (not_taken Pending refl a.is);
-  held = λ k a. absurd (not_taken Pending refl a.is);
-}
-
--- ---- take
-
--- what is handed out was pending
-pub is_pending : (v : View) (k : ℕ) → Chosen v k → PendingAt v k
-is_pending v k (first_ready p r n) = p
-is_pending v k (first_pending p n m) = p
-
-taken_sound : (kind : Kind) (v : View) (row : ℕ → State) (k : ℕ) → NoneTaken v → Chosen v k → row k ≡ Taken → ((j : ℕ) → (j ≡ k → ⊥) → row j ≡ v.row j)
-    → SoundView kind v → SoundView kind (with_rows v row)
-taken_sound kind v row k none chosen here others sound = record {
-  right = λ j s x e. sound.right j s x (before j s e);
-  one = λ i j a b. only i a ∙ sym (only j b);
-  held = λ j a. subst (λ (i : ℕ). ReadyFile (with_rows v row) i ⊎ NoneReady (with_rows v row)) (sym (only j a)) (holds chosen);
-}
-  where
-    before : (j : ℕ) (s : Settlement) → row j ≡ Settled s → v.row j ≡ Settled s
-    before j s e = sym (others j (λ same. taken_settled (row j) s (ap row same ∙ here) e)) ∙ e
-
-    pending : PendingAt v k
-    pending = is_pending v k chosen
-
-    after : (j : ℕ) (s : Settlement) → v.row j ≡ Settled s → row j ≡ Settled s
-    after j s e = others j (λ same. not_settled (v.row j) s (ap v.row same ∙ pending.is) e) ∙ e
-
-    only : (j : ℕ) → TakenAt (with_rows v row) j → j ≡ k
-    only j a = elim (cases_eq j k) [ inl e ↦ e | inr n ↦ absurd (none j (record { exists = a.exists; is = sym (others j n) ∙ a.is })) ]
-
-    unready : ((j : ℕ) → PendingAt v j → ReadyFile v j → ⊥) → (j : ℕ) → WaitingAt (with_rows v row) j → ReadyFile v j → ⊥
-    unready n j (inl p) r = n j (record { exists = p.exists; is = sym (others j (λ same. not_taken (row j) p.is (ap row same ∙ here))) ∙ p.is }) r
-    unready n j (inr t) r = n k pending (subst (ReadyFile v) (only j t) r)
-
-    holds : Chosen v k → ReadyFile (with_rows v row) k ⊎ NoneReady (with_rows v row)
-    holds (first_ready p r n) = inl (stays_ready v row after k r)
-    holds (first_pending p n m) = inr (λ j a r. unready n j a (stays_ready (with_rows v row) v.row before j r))
-
-pub take_keeps : (kind : Kind) (v w : View) (r : Result ℕ CallRefusal) → Takes v r w → SoundView kind v → SoundView kind w
-take_keeps kind v w (Ok k) (o, none, chosen, c) sound = subst (SoundView kind) (same_view c) (taken_sound kind v w.row k none chosen c.here c.others sound)
-take_keeps kind v w (Err e) (q, same) sound = subst (SoundView kind) (sym same) sound
-
--- ---- settle and put back
-
--- the taken file is in another state
-left_sound : (kind : Kind) (v : View) (row : ℕ → State) (k : ℕ) → TakenAt v k → (row k ≡ Taken → ⊥) → ((j : ℕ) → (j ≡ k → ⊥) → row j ≡ v.row j)
-    → ((s : Settlement) → row k ≡ Settled s → RowRight kind (files v) (path_at v k) s) → SoundView kind v → SoundView kind (with_rows v row)
-left_sound kind v row k taken left others right sound = record {
-  right = λ j s x e. elim (cases_eq j k) [
-    | inl same ↦ subst (λ (i : ℕ). RowRight kind (files v) (path_at v i) s) (sym same) (right s (ap row (sym same) ∙ e))
-    | inr n ↦ sound.right j s x (sym (others j n) ∙ e)
-  ];
-  one = λ i j a b. absurd (none i a);
-  held = λ j a. absurd (none j a);
-}
-  where
-    none : (j : ℕ) → TakenAt (with_rows v row) j → ⊥
-    none j a = elim (cases_eq j k) [
-      | inl same ↦ left (ap row (sym same) ∙ a.is)
-      | inr n ↦ n (sound.one j k (record { exists = a.exists; is = sym (others j n) ∙ a.is }) taken)
-    ]
-
-row_right : (kind : Kind) (set : Files) (p : Bytes) (s : Settlement) (before after : sinks.Meaning) (n : ℕ) → Decides kind set p s before n after → RowRight kind set p s
-row_right kind set p s before after n d = way d.outcome
-  where
-    way : Outcome kind set p before n after s.hashes → RowRight kind set p s
-    way (with_hash h ss e x m g c l) = record {
-      verdict = d.verdict;
-      hash = λ k f. subst (λ (a : Hashes). Hashed set (D kind) p a.hash.bytes) (same_hashes s.hashes h k e f) x;
-      masked = λ k f. subst (λ (a : Hashes). MaskedHash set (D kind) p a.masked) (same_hashes s.hashes h k e f) m;
-      without = λ f. absurd (no_hash s.hashes h f e);
-    }
-    way (without e none c l) = record {
-      verdict = d.verdict;
-      hash = λ k f. absurd (no_hash s.hashes k e f);
-      masked = λ k f. absurd (no_hash s.hashes k e f);
-      without = λ f. none;
-    }
-
-pub settle_keeps : (kind : Kind) (v w : View) (k : ℕ) (before after : sinks.Meaning) (r : Result ℕ CallRefusal) → Settles kind v k before r w after
-    → SoundView kind v → SoundView kind w
-settle_keeps kind v w k before after (Ok n) (s, o, taken, c, d) sound =
-    subst (SoundView kind) (same_view c)
-    (left_sound kind v w.row k taken (λ e. taken_settled (w.row k) s e c.here) c.others
-    (λ t e. subst (RowRight kind (files v) (path_at v k)) (same_settlement (w.row k) s t c.here e) (row_right kind (files v) (path_at v k) s before after n d))
-    sound)
-settle_keeps kind v w k before after (Err e) (q, same, kept) sound = subst (SoundView kind) (sym same) sound
-
-pub back_keeps : {T : Type 0} (kind : Kind) (v w : View) (k : ℕ) (r : Result T CallRefusal) → PutsBack v k r w → SoundView kind v → SoundView kind w
-back_keeps kind v w k (Ok x) (o, taken, c) sound =
-    subst (SoundView kind) (same_view c)
-    (left_sound kind v w.row k taken (not_taken (w.row k) c.here) c.others (λ s e. absurd (not_settled (w.row k) s c.here e)) sound)
-back_keeps kind v w k (Err e) (q, same) sound = subst (SoundView kind) (sym same) sound
 
 -- ---- files without a hash
 
@@ -196,8 +97,147 @@ stuck_at kind v sound none (hashable m e y i) k a same =
     none k a (supplied m (subst (λ (q : Bytes). Means (files v) q m) (sym same) e)
     (λ r o. settled_with kind v sound r.0 (i r o) (stuck_at kind v sound none (i r o)) (number_of v r.0 (y.present r o))))
 
-pub stuck : (kind : Kind) (v : View) → SoundView kind v → NoneReady v → (k : ℕ) → WaitingAt v k → Hashable (files v) (path_at v k) → ⊥
+stuck : (kind : Kind) (v : View) → SoundView kind v → NoneReady v → (k : ℕ) → WaitingAt v k → Hashable (files v) (path_at v k) → ⊥
 stuck kind v sound none k a y = stuck_at kind v sound none y k a refl
+
+-- ---- the inputs of a file with a hash
+
+-- a taken file that can have a hash has its inputs settled with hashes: it is ready, since else no waiting file can have one
+taken_inputs : (kind : Kind) (v : View) → SoundView kind v → (k : ℕ) → TakenAt v k → Hashable (files v) (path_at v k) → InputsHashedAt v k
+taken_inputs kind v sound k taken y m e r o = elim (sound.held k taken) [
+  | inl ready ↦ supplies ready
+  | inr none ↦ absurd (stuck kind v sound none k (inr taken) y)
+]
+  where
+    supplies : ReadyFile v k → (j : ℕ) × (h : Hashes) × NumberOf v r.0 j × HashedAt v j h
+    supplies (early f) = absurd (f m e (hashable_ready y m e))
+    supplies (spoilt n f s u j a x) = absurd (settled_without kind v sound j x (subst (Hashable (files v)) (sym a.is) (inputs_hashable y n f s u)))
+    supplies (supplied n f all) = all r (subst (λ (x : Meaning). Names x r) (one_meaning (files v) (path_at v k) m n e f) o)
+
+-- the file k was not settled, and if it is settled with a hash now, its inputs are
+changed_inputs : (kind : Kind) (v : View) (row : ℕ → State) (k : ℕ) → ((s : Settlement) → v.row k ≡ Settled s → ⊥) → ((j : ℕ) → (j ≡ k → ⊥) → row j ≡ v.row j)
+    → ((s : Settlement) (h : Hashes) → row k ≡ Settled s → s.hashes ≡ Some h → InputsHashedAt v k) → SoundView kind v
+    → (j : ℕ) (h : Hashes) → HashedAt (with_rows v row) j h → InputsHashedAt (with_rows v row) j
+changed_inputs kind v row k not others new sound j h a m e r o = stays_supplied v row stays r (inputs (cases_eq j k) m e r o)
+  where
+    inputs : (j ≡ k) ⊎ (j ≡ k → ⊥) → InputsHashedAt v j
+    inputs (inl same) = subst (InputsHashedAt v) (sym same) (new a.settlement h (ap row (sym same) ∙ a.settled) a.is)
+    inputs (inr n) = sound.inputs j h (record { exists = a.exists; settlement = a.settlement; settled = sym (others j n) ∙ a.settled; is = a.is })
+
+    stays : (i : ℕ) (s : Settlement) → v.row i ≡ Settled s → row i ≡ Settled s
+    stays i s e = others i (λ same. not s (ap v.row (sym same) ∙ e)) ∙ e
+
+-- ---- open
+
+pub fresh_sound : (kind : Kind) (img : Bytes) (n : ℕ) → SoundView kind (fresh img n)
+fresh_sound kind img n = record {
+  right = λ k s x e. absurd (not_settled Pending s refl e);
+  one = λ j k a b. absurd (not_taken Pending refl a.is);
+  held = λ k a. absurd (not_taken Pending refl a.is);
+  inputs = λ k h a. absurd (not_settled Pending a.settlement refl a.settled);
+}
+
+-- ---- take
+
+-- what is handed out was pending
+pub is_pending : (v : View) (k : ℕ) → Chosen v k → PendingAt v k
+is_pending v k (first_ready p r n) = p
+is_pending v k (first_pending p n m) = p
+
+taken_sound : (kind : Kind) (v : View) (row : ℕ → State) (k : ℕ) → NoneTaken v → Chosen v k → row k ≡ Taken → ((j : ℕ) → (j ≡ k → ⊥) → row j ≡ v.row j)
+    → SoundView kind v → SoundView kind (with_rows v row)
+taken_sound kind v row k none chosen here others sound = record {
+  right = λ j s x e. sound.right j s x (before j s e);
+  one = λ i j a b. only i a ∙ sym (only j b);
+  held = λ j a. subst (λ (i : ℕ). ReadyFile (with_rows v row) i ⊎ NoneReady (with_rows v row)) (sym (only j a)) (holds chosen);
+  inputs = changed_inputs kind v row k (λ s. not_settled (v.row k) s pending.is) others (λ s h e f. absurd (taken_settled (row k) s here e)) sound;
+}
+  where
+    before : (j : ℕ) (s : Settlement) → row j ≡ Settled s → v.row j ≡ Settled s
+    before j s e = sym (others j (λ same. taken_settled (row j) s (ap row same ∙ here) e)) ∙ e
+
+    pending : PendingAt v k
+    pending = is_pending v k chosen
+
+    after : (j : ℕ) (s : Settlement) → v.row j ≡ Settled s → row j ≡ Settled s
+    after j s e = others j (λ same. not_settled (v.row j) s (ap v.row same ∙ pending.is) e) ∙ e
+
+    only : (j : ℕ) → TakenAt (with_rows v row) j → j ≡ k
+    only j a = elim (cases_eq j k) [ inl e ↦ e | inr n ↦ absurd (none j (record { exists = a.exists; is = sym (others j n) ∙ a.is })) ]
+
+    unready : ((j : ℕ) → PendingAt v j → ReadyFile v j → ⊥) → (j : ℕ) → WaitingAt (with_rows v row) j → ReadyFile v j → ⊥
+    unready n j (inl p) r = n j (record { exists = p.exists; is = sym (others j (λ same. not_taken (row j) p.is (ap row same ∙ here))) ∙ p.is }) r
+    unready n j (inr t) r = n k pending (subst (ReadyFile v) (only j t) r)
+
+    holds : Chosen v k → ReadyFile (with_rows v row) k ⊎ NoneReady (with_rows v row)
+    holds (first_ready p r n) = inl (stays_ready v row after k r)
+    holds (first_pending p n m) = inr (λ j a r. unready n j a (stays_ready (with_rows v row) v.row before j r))
+
+pub take_keeps : (kind : Kind) (v w : View) (r : Result ℕ CallRefusal) → Takes v r w → SoundView kind v → SoundView kind w
+take_keeps kind v w (Ok k) (o, none, chosen, c) sound = subst (SoundView kind) (same_view c) (taken_sound kind v w.row k none chosen c.here c.others sound)
+take_keeps kind v w (Err e) (q, same) sound = subst (SoundView kind) (sym same) sound
+
+-- ---- settle and put back
+
+-- the taken file is in another state
+left_sound : (kind : Kind) (v : View) (row : ℕ → State) (k : ℕ) → TakenAt v k → (row k ≡ Taken → ⊥) → ((j : ℕ) → (j ≡ k → ⊥) → row j ≡ v.row j)
+    → ((s : Settlement) → row k ≡ Settled s → RowRight kind (files v) (path_at v k) s)
+    → ((s : Settlement) (h : Hashes) → row k ≡ Settled s → s.hashes ≡ Some h → InputsHashedAt v k) → SoundView kind v → SoundView kind (with_rows v row)
+left_sound kind v row k taken left others right new sound = record {
+  right = λ j s x e. elim (cases_eq j k) [
+    | inl same ↦ subst (λ (i : ℕ). RowRight kind (files v) (path_at v i) s) (sym same) (right s (ap row (sym same) ∙ e))
+    | inr n ↦ sound.right j s x (sym (others j n) ∙ e)
+  ];
+  one = λ i j a b. absurd (none i a);
+  held = λ j a. absurd (none j a);
+  inputs = changed_inputs kind v row k (λ s. taken_settled (v.row k) s taken.is) others new sound;
+}
+  where
+    none : (j : ℕ) → TakenAt (with_rows v row) j → ⊥
+    none j a = elim (cases_eq j k) [
+      | inl same ↦ left (ap row (sym same) ∙ a.is)
+      | inr n ↦ n (sound.one j k (record { exists = a.exists; is = sym (others j n) ∙ a.is }) taken)
+    ]
+
+row_right : (kind : Kind) (set : Files) (p : Bytes) (s : Settlement) (before after : sinks.Meaning) (n : ℕ) → Decides kind set p s before n after → RowRight kind set p s
+row_right kind set p s before after n d = way d.outcome
+  where
+    way : Outcome kind set p before n after s.hashes → RowRight kind set p s
+    way (with_hash h ss e x m g c l) = record {
+      verdict = d.verdict;
+      hash = λ k f. subst (λ (a : Hashes). Hashed set (D kind) p a.hash.bytes) (same_hashes s.hashes h k e f) x;
+      masked = λ k f. subst (λ (a : Hashes). MaskedHash set (D kind) p a.masked) (same_hashes s.hashes h k e f) m;
+      without = λ f. absurd (no_hash s.hashes h f e);
+    }
+    way (without e none c l) = record {
+      verdict = d.verdict;
+      hash = λ k f. absurd (no_hash s.hashes k e f);
+      masked = λ k f. absurd (no_hash s.hashes k e f);
+      without = λ f. none;
+    }
+
+outcome_hashable : (kind : Kind) (set : Files) (p : Bytes) (before after : sinks.Meaning) (n : ℕ) (o : Option Hashes) (h : Hashes) → Outcome kind set p before n after o → o ≡ Some h → Hashable set p
+outcome_hashable kind set p before after n o h (with_hash g ss e x m c i l) f = is_hashable set (D kind) x
+outcome_hashable kind set p before after n o h (without e none c l) f = absurd (no_hash o h e f)
+
+pub settle_keeps : (kind : Kind) (v w : View) (k : ℕ) (before after : sinks.Meaning) (r : Result ℕ CallRefusal) → Settles kind v k before r w after
+    → SoundView kind v → SoundView kind w
+settle_keeps kind v w k before after (Ok n) (s, o, taken, c, d) sound =
+    subst (SoundView kind) (same_view c)
+    (left_sound kind v w.row k taken (λ e. taken_settled (w.row k) s e c.here) c.others
+    (λ t e. subst (RowRight kind (files v) (path_at v k)) (same_settlement (w.row k) s t c.here e) (row_right kind (files v) (path_at v k) s before after n d))
+    (λ t h e f. taken_inputs kind v sound k taken
+    (outcome_hashable kind (files v) (path_at v k) before after n s.hashes h d.outcome (ap (λ (x : Settlement). x.hashes) (same_settlement (w.row k) s t c.here e) ∙ f)))
+    sound)
+settle_keeps kind v w k before after (Err e) (q, same, kept) sound = subst (SoundView kind) (sym same) sound
+
+pub back_keeps : {T : Type 0} (kind : Kind) (v w : View) (k : ℕ) (r : Result T CallRefusal) → PutsBack v k r w → SoundView kind v → SoundView kind w
+back_keeps kind v w k (Ok x) (o, taken, c) sound =
+    subst (SoundView kind) (same_view c)
+    (left_sound kind v w.row k taken (not_taken (w.row k) c.here) c.others (λ s e. absurd (not_settled (w.row k) s c.here e)) (λ s h e f. absurd (not_settled (w.row k) s c.here e)) sound)
+back_keeps kind v w k (Err e) (q, same) sound = subst (SoundView kind) (sym same) sound
+
+-- ---- waiting inputs
 
 not_waiting : (v : View) (j : ℕ) (h : Hashes) → WaitingAt v j → HashedAt v j h → ⊥
 not_waiting v j h (inl p) u = not_settled (v.row j) u.settlement p.is u.settled

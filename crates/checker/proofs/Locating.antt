@@ -20,6 +20,7 @@ use Rattle.links.proofs.Files.{set_finite, set_has}
 use Rattle.image.specs.Layout.{file_text}
 use Rattle.right_paths.specs.Pouring.{poured}
 use Rattle.right_paths.proofs.Pourings.{holds_last}
+use Rattle.sink.specs.Write.{steps}
 use Rattle.sink.specs.Write as sinks
 use Rattle.verdict.proofs.Every.{every_verdict}
 use Rattle.checker.specs.Calls.{Kind, D, Holds, MaskedHash, Outcome, with_hash, without, Decides, PathStrings, own as own_needed, fixed, masked}
@@ -91,6 +92,10 @@ pub record SettleDecided (kind : Kind) (v : View) (k : ℕ) (before : sinks.Mean
   pub count : ℕ
   pub after : sinks.Meaning
   pub decides : Decides kind (files v) (path_at v k) settlement before count after
+
+-- every digest has 32 bytes
+pub digest_wide : (kind : Kind) → Wide (D kind)
+digest_wide kind s = kind.wide (steps kind.step kind.start s)
 
 pub settle_decides : (kind : Kind) (v : View) → Opens v.image v.count → Wide (D kind) → (k : ℕ) → Exists v k → (before : sinks.Meaning) → SettleDecided kind v k before
 settle_decides kind v o w k x before =

@@ -2,7 +2,7 @@
 use mathlib.Core.Logic.{∥∥₁_elim}
 use mathlib.Core.HLevel.{⊥_prop}
 use native.Mathlib.Bridge.{le_prop}
-use Rattle.std.proofs.Common.{◌≡◌, ℕ, zero, suc, ◌<◌, ◌≤◌, Bool, true, false, cond, List, [], ◌∷◌, length, get_or, codes, Some, None, Option, Ok, Err, Result, OnErr, sym, refl, ap, ◌∙◌, subst, inl, inr, arith}
+use Rattle.std.proofs.Common.{◌≡◌, ℕ, zero, suc, ◌<◌, ◌≤◌, Bool, true, false, cond, List, [], ◌∷◌, length, get_or, codes, Some, None, Option, Ok, Err, Result, IfErr, sym, refl, ap, ◌∙◌, subst, inl, inr, arith}
 use Rattle.std.specs.Str.{bytes_eq}
 use Rattle.std.proofs.lemmas.List.FromFn.{length-map-range_with_len}
 use Rattle.canonical.specs.Kinds.{Value}
@@ -27,17 +27,15 @@ use Rattle.checker.specs.declared.state.State.{State}
 use Rattle.checker.specs.declared.state.State.TheVariants.{Pending, Taken, Settled}
 use Rattle.sink.specs.Write as sinks
 use Rattle.store_path.specs.Base32.{base32, character}
-use Rattle.checker.specs.Calls.{Kind, D, Paths, own as own_needed, fixed, masked, HasOutput}
-use Rattle.checker.specs.Locating.{path_length, of_fixed as by_fixed, of_masked as by_masked, KeptHashes, FileLocated, LocatedIfRead, InputsKept}
-use Rattle.checker.specs.Seen.{view_if, KeptIn}
+use Rattle.checker.specs.Calls.{Kind, D, Paths, own as own_needed, fixed, masked, HasHash, HasOutput}
+use Rattle.checker.specs.Locating.{path_length, of_fixed as by_fixed, of_masked as by_masked, KeptHashes, FileLocated, LocatedIfRead, path_name, PathRefused}
 use Rattle.checker.specs.Soundness.{SoundView}
-use Rattle.checker.specs.declared.checker.OpenSet.{OpenSet}
 use Rattle.checker.specs.Views.{View, Open, files, path_at, Exists, HashedAt}
 use Rattle.checker.specs.declared.refused.CallRefusal.{CallRefusal}
 use Rattle.checker.specs.declared.state.Hashes.{Hashes}
 use Rattle.checker.proofs.Locating.{located}
 use Rattle.checker.proofs.Placing.{long}
-use Rattle.checker.proofs.Rewritten.{means_at, reads_at, opens_kept}
+use Rattle.checker.proofs.Rewritten.{means_at, reads_at}
 
 -- ---- how long a right path is
 
@@ -57,28 +55,34 @@ module _ (set : Files) (d : Bytes → Bytes) (p : Bytes) where
   output_long {o = o} (of_fixed f e) = ap length e ∙ one_long (bytes_eq o.1.1.0 (codes "r:sha256")) _ _ (output_name p o.0)
   output_long {o = o} (of_masked n s t e) = ap length e ∙ long _ (output_name p o.0) (digits_long _)
 
-  abbrev name_at : Meaning → ℕ → Bytes
-  name_at m zero = file_name p
-  name_at m (suc i) = output_name p (get_or m.0 i no_output).0
-
-  right_long : (m : Meaning) → Means set p m → {j : ℕ} {q : Bytes} → RightPath set d p j q → length q ≡ path_length (name_at m j)
+  right_long : (m : Meaning) → Means set p m → {j : ℕ} {q : Bytes} → RightPath set d p j q → length q ≡ path_length (path_name p m j)
   right_long m e (own n f x) = own_long x
   right_long m e {q = q} (output n f y g h i l x) =
       subst (λ (w : Meaning). length q ≡ path_length (output_name p (get_or w.0 i no_output).0)) (one_meaning set p n m f e) (output_long x)
 
--- ---- a refusal leaves all
+-- ---- a refusal
 
-pub left_alone : (kind : Kind) (v : View) (path text : Bytes) (j : ℕ) (out : List ℕ) (before : sinks.Meaning) (r : Result ℕ CallRefusal) (after : List ℕ) (sink : sinks.Meaning)
-    → LocatedIfRead kind v path text j out before r after sink → OnErr r ((after ≡ out) × (sink ≡ before))
-left_alone kind v path text j out before (Ok n) after sink w = tt
-left_alone kind v path text zero out before (Err e) after sink (inl (m, reads, l)) = (l.1, l.2)
-left_alone kind v path text (suc i) out before (Err e) after sink (inl (m, reads, inl (less, l))) = (l.1, l.2)
-left_alone kind v path text (suc i) out before (Err e) after sink (inl (m, reads, inr (more, is, same, stays))) = (same, stays)
-left_alone kind v path text j out before (Err e) after sink (inr (none, is, same, stays)) = (same, stays)
+module _ (v : View) (k : ℕ) (opens : Opens v.image v.count) (o : Open v) (x : Exists v k) (h : HasHash v k) where
+  pub path_refused : (kind : Kind) (j : ℕ) (out : List ℕ) (before : sinks.Meaning) (r : Result ℕ CallRefusal) (after : List ℕ) (sink : sinks.Meaning)
+      → LocatedIfRead kind v (path_at v k) (file_text v.image k) j out before r after sink → IfErr r (PathRefused v k j (length out))
+  path_refused kind j out before (Ok n) after sink w = tt
+  path_refused kind zero out before (Err f) after sink (inl (m, reads, (inl (short, is), same, stays))) =
+      let e = means_at v k opens x m reads in
+      inr (o, inr (x, inr ((h, (m, e)), inr ((m, e, omega arith), inl ((λ fits. short (fits m e)), is)))))
+  path_refused kind zero out before (Err f) after sink (inl (m, reads, (inr (y, done), same, stays))) = absurd done
+  path_refused kind (suc i) out before (Err f) after sink (inl (m, reads, inl (less, (inl (short, is), same, stays)))) =
+      let e = means_at v k opens x m reads in
+      inr (o, inr (x, inr ((h, (m, e)), inr ((m, e, omega (arith, less)), inl ((λ fits. short (fits m e)), is)))))
+  path_refused kind (suc i) out before (Err f) after sink (inl (m, reads, inl (less, (inr (y, done), same, stays)))) = absurd done
+  path_refused kind (suc i) out before (Err f) after sink (inl (m, reads, inr (more, is, same, stays))) =
+      let e = means_at v k opens x m reads in
+      inr (o, inr (x, inr ((h, (m, e)), inl ((λ z. more (omega (arith, z.2, ap (λ (w : Meaning). length w.0) (one_meaning (files v) (path_at v k) z.0 m z.1 e)))), cc))))
+  path_refused kind j out before (Err f) after sink (inr (none, is, same, stays)) =
+      inr (o, inr (x, inl ((λ w. none (w.1.0, reads_at v k opens x w.1.0 w.1.1)), cc)))
 
 -- ---- the file k of a set
 
-module _ (kind : Kind) (v : View) (k : ℕ) (opens : Opens v.image v.count) (sound : SoundView kind v) (kept : InputsKept v) (o : Open v) (x : Exists v k) (h : Hashes) (a : HashedAt v k h) where
+module _ (kind : Kind) (v : View) (k : ℕ) (opens : Opens v.image v.count) (sound : SoundView kind v) (o : Open v) (x : Exists v k) (h : Hashes) (a : HashedAt v k h) where
   abbrev set : Files
   set = files v
 
@@ -93,7 +97,7 @@ module _ (kind : Kind) (v : View) (k : ℕ) (opens : Opens v.image v.count) (sou
 
   inputs : (m : Meaning) → Means set p m → (g : Bytes → Bytes) → KeptHashes v m g → InputsHashed set (D kind) m g
   inputs m e g known r n =
-      let z = kept k h a m e r n in
+      let z = sound.inputs k h a m e r n in
       subst (Hashed set (D kind) r.0) (sym (known r n z.0 z.1 z.2 z.3))
       (subst (λ (q : Bytes). Hashed set (D kind) q z.1.hash.bytes) z.2.is (right_hash z.0 z.1 z.3))
 
@@ -196,10 +200,8 @@ hashed_at v k x (Settled t) e r q n = by t.hashes refl
     by None z = absurd (n (q ∙ ap hash_if z))
     by (Some h) z = (h, record { exists = x; settlement = t; settled = sym e; is = z })
 
--- what a set answers, its checker does, where the set is kept
-pub path_in : (kind : Kind) (c : Option OpenSet) (w : View) (k j : ℕ) (out : List ℕ) (before : sinks.Meaning) (r : Result ℕ CallRefusal) (after : List ℕ) (sink : sinks.Meaning)
-    → view_if c ≡ w → Open w → (Opens w.image w.count → SoundView kind w → InputsKept w → Paths kind w k j out before r after sink)
-    → KeptIn c → SoundView kind (view_if c) → InputsKept (view_if c) → Paths kind (view_if c) k j out before r after sink
-path_in kind c w k j out before r after sink same o f kept sound inputs_kept =
-    let opens = subst (λ (v : View). Opens v.image v.count) same (opens_kept c kept (subst Open (sym same) o)) in
-    subst (λ (v : View). Paths kind v k j out before r after sink) (sym same) (f opens (subst (SoundView kind) same sound) (subst InputsKept same inputs_kept))
+-- what a set answers, its checker does
+pub path_in : (kind : Kind) (u w : View) (k j : ℕ) (out : List ℕ) (before : sinks.Meaning) (r : Result ℕ CallRefusal) (after : List ℕ) (sink : sinks.Meaning)
+    → u ≡ w → (SoundView kind w → Paths kind w k j out before r after sink) → SoundView kind u → Paths kind u k j out before r after sink
+path_in kind u w k j out before r after sink same f sound =
+    subst (λ (v : View). Paths kind v k j out before r after sink) (sym same) (f (subst (SoundView kind) same sound))

@@ -1,9 +1,8 @@
 -- Every list of calls has a run from a newly opened checker on.
 use Rattle.std.proofs.Common.{◌≡◌, ℕ, List, [], ◌∷◌, map, sym, refl, subst}
-use Rattle.hash_modulo.specs.Laws.{Wide}
 use Rattle.hash_modulo.specs.Sets.{Bytes}
 use Rattle.image.specs.Opening.{Opens}
-use Rattle.checker.specs.Calls.{Kind, D}
+use Rattle.checker.specs.Calls.{Kind}
 use Rattle.checker.specs.Events.{part, patched, Event, took, settled, returned, told, located, rewritten, circled, lined, tailed, Request, taking, settling, returning, telling, locating, rewriting, circling, lining, tailing, asked, Stage, Happens, Runs}
 use Rattle.checker.specs.Soundness.{SoundView}
 use Rattle.checker.specs.Theorem.{SomeAnswers, EveryListRuns}
@@ -12,7 +11,7 @@ use Rattle.checker.proofs.Answering.{every_call_answers, sound_hashes_hold}
 use Rattle.checker.proofs.Keeping.{fresh_sound}
 use Rattle.checker.proofs.Running.{Of, step}
 
-module _ (kind : Kind) (wide : Wide (D kind)) where
+module _ (kind : Kind) where
   -- a call that is asked for happens
   abbrev Answered : Stage → Request → Type 0
   Answered s r = (e : Event) × (t : Stage) × (asked e ≡ r) × Happens kind s e t
@@ -22,7 +21,7 @@ module _ (kind : Kind) (wide : Wide (D kind)) where
       let (r, w, h) = a.take in
       (took r, record { view = w; sink = s.sink; buffer = s.buffer }, refl, (h, record { view = refl; sink = refl; buffer = refl }))
   answered s sound a (settling k) =
-      let (r, w, m, h) = a.settle wide k s.sink in
+      let (r, w, m, h) = a.settle k s.sink in
       (settled k r, record { view = w; sink = m; buffer = s.buffer }, refl, (h, refl))
   answered s sound a (returning k) =
       let (r, w, h) = a.put_back k in
@@ -55,5 +54,5 @@ module _ (kind : Kind) (wide : Wide (D kind)) where
         (e ∷ es, t, (λ i. q i ∷ qs i), (u, h, more))
 
 pub every_list_runs : EveryListRuns
-every_list_runs kind wide img n opens sink buffer rs =
-    all_run kind wide img n opens rs (record { view = fresh img n; sink = sink; buffer = buffer }) (record { opened = refl; image = refl; count = refl }) (fresh_sound kind img n)
+every_list_runs kind img n opens sink buffer rs =
+    all_run kind img n opens rs (record { view = fresh img n; sink = sink; buffer = buffer }) (record { opened = refl; image = refl; count = refl }) (fresh_sound kind img n)

@@ -1,12 +1,13 @@
 -- A file is ready exactly where the links that are kept of it say so.
-use Rattle.std.proofs.Common.{◌≡◌, ℕ, zero, suc, ◌<◌, Bool, true, false, List, [], ◌∷◌, cond, length, get_or, map, None, Some, Option, Decides, sym, refl, ap, ◌∙◌, subst, inl, inr, arith}
+use Rattle.std.proofs.Common.{◌≡◌, ℕ, ◌<◌, Bool, true, false, cond, get_or, map, None, Some, Option, Decides, sym, refl, ap, ◌∙◌, subst, inl, inr, arith}
 use Rattle.aterm.specs.Files.{input, derivation}
 use Rattle.aterm.specs.Grammar.{Tree, meaning}
 use Rattle.canonical.specs.Kinds.{Means as Meant}
 use Rattle.canonical.specs.Meanings.{a_derivation, Meaning}
-use Rattle.canonical.specs.Order.{Member, Same}
+use Rattle.canonical.specs.Order.{Same}
 use Rattle.canonical.proofs.Exist.{exists}
 use Rattle.canonical.proofs.Home.{whole_once}
+use Rattle.canonical.proofs.Members.{member_at, place_of}
 use Rattle.file_meaning.specs.Reads.{Reads}
 use Rattle.file_meaning.proofs.Judged.{not_both}
 use Rattle.file_meaning.proofs.Trees.{passes}
@@ -32,18 +33,6 @@ use Rattle.checker.specs.declared.state.Settlement.{Settlement}
 use Rattle.checker.specs.declared.state.State.{State}
 use Rattle.checker.specs.declared.state.State.TheVariants.{Pending, Taken, Settled}
 use Rattle.checker.proofs.Keeping.{one_number}
-
--- ---- rows of a list, by their places
-
-member_at : {X : Type 0} (xs : List X) (d : X) (i : ℕ) → i < length xs → Member (get_or xs i d) xs
-member_at [] d i h = absurd (omega arith)
-member_at (x ∷ xs) d zero h = inl refl
-member_at (x ∷ xs) d (suc i) h = inr (member_at xs d i (omega arith))
-
-place_of : {X : Type 0} (xs : List X) (d x : X) → Member x xs → (i : ℕ) × (i < length xs) × (get_or xs i d ≡ x)
-place_of [] d x m = absurd m
-place_of (y ∷ xs) d x (inl e) = (0, omega arith, sym e)
-place_of (y ∷ xs) d x (inr m) = let w = place_of xs d x m in (suc w.0, omega (arith, w.1), w.2)
 
 -- ---- one row
 
@@ -201,7 +190,7 @@ module _ (v : View) (k : ℕ) (opens : Opens v.image v.count) (there : Exists v 
     pub link_ahead : (m : Meaning) → Means (files v) path m → (i : ℕ) → i < l.count → (r : Row) × Names m r × LinkOf v r (get_or l.rows i None)
     link_ahead m f i less =
         let t = get_or tree.1.0 i no_input in
-        let w = input_there tree m (meant m f) t (member_at tree.1.0 no_input i (omega (arith, linked.count, less))) in
+        let w = input_there tree m (meant m f) t (member_at tree.1.0 i no_input (omega (arith, linked.count, less))) in
         (w.0, w.1, link_of t w.0 w.2 w.3 (get_or l.rows i None) (linked.right i less))
 
     behind : (m : Meaning) → Means (files v) path m → (r : Row) → Names m r → (i : ℕ) × (i < l.count) × Stands v r (standing i)

@@ -83,6 +83,6 @@ rewritten_again kind v w j k m opens exists means path same =
     record {
       reads = (m, here);
       not_refused = not_38 w k m here;
-      itself = λ out n after r. (rewritten w k m here out n after r).1 ∙ sym same;
+      itself = λ out n after r. let x = rewritten w k m here out n after r in (x.0 ∙ ap length (sym same), x.1 ∙ sym same);
       canonical_already = λ place judged. never_24 (files w) (D kind) (path_at w k) m here same _ place refl judged;
     }

@@ -1,5 +1,5 @@
 -- What rewrite does of one file by its path and text, it does of that file in a set that has it.
-use Rattle.std.proofs.Common.{◌≡◌, ℕ, List, Some, None, Ok, Err, Option, Result, OnErr, true≢false, sym, refl, subst, inl, inr}
+use Rattle.std.proofs.Common.{◌≡◌, ℕ, List, Some, Ok, Err, Option, Result, sym, refl, subst, inl, inr}
 use Rattle.aterm.specs.declared.file.Derivation.{Derivation}
 use Rattle.canonical.specs.Files.{derivation_value}
 use Rattle.canonical.specs.Kinds.{Arranges}
@@ -18,11 +18,12 @@ use Rattle.image.specs.Layout.{file_text}
 use Rattle.image.specs.Opening.{Opens}
 use Rattle.links.proofs.Files.{set_has}
 use Rattle.checker.specs.Calls.{Written, Rewrites, FileRewritten}
-use Rattle.checker.specs.Seen.{view_if, KeptIn}
+use Rattle.checker.specs.Seen.{view_if}
 use Rattle.checker.specs.Views.{View, Open, Exists, files, path_at}
 use Rattle.checker.specs.declared.checker.OpenSet.{OpenSet}
 use Rattle.checker.specs.declared.refused.CallRefusal.{CallRefusal}
 use Rattle.checker.specs.declared.refused.CallRefusal.TheVariants.{NotRead}
+use Rattle.checker.proofs.Reopened.{set_opens}
 
 -- ---- a file by its path and text
 
@@ -51,11 +52,6 @@ file_written path text m reads out (Err e) after (inr (y, done), same) = absurd 
 pub file_unread : (path text : Bytes) (f : FileFault) → IsFileFault path text f → (out : List ℕ) → FileRewritten path text out (Err NotRead) out
 file_unread path text f fault out = (inl ((λ z. not_both path text z.0 f z.1 fault), refl), refl)
 
--- a refusal leaves the buffer as it was
-pub untouched : (path text out : Bytes) (r : Result ℕ CallRefusal) (after : Bytes) → FileRewritten path text out r after → OnErr r (after ≡ out)
-untouched path text out (Ok n) after f = tt
-untouched path text out (Err e) after f = f.1
-
 -- ---- the file k of a set that has it
 
 module _ (v : View) (k : ℕ) (opens : Opens v.image v.count) (exists : Exists v k) where
@@ -74,15 +70,10 @@ module _ (v : View) (k : ℕ) (opens : Opens v.image v.count) (exists : Exists v
   in_set out (Err e) after o (inr (y, inl (n, is)), same) = (inr (o, inr (exists, inr ((y.0, means_at y.0 y.1), inl ((λ f. n (λ m r. f m (means_at m r))), is)))), same)
   in_set out (Err e) after o (inr (y, inr (f, done)), same) = absurd done
 
--- the image of a set that is kept opens
-pub opens_kept : (c : Option OpenSet) → KeptIn c → Open (view_if c) → Opens (view_if c).image (view_if c).count
-opens_kept None k o = absurd (true≢false (sym o))
-opens_kept (Some s) k o = k.0
-
--- the file k of a checker whose set is kept
+-- the file k of a checker
 pub rewritten_in : (c : Option OpenSet) (w : View) (k : ℕ) (path text out : Bytes) (r : Result ℕ CallRefusal) (after : Bytes)
-    → KeptIn c → view_if c ≡ w → Open w → Exists w k → path ≡ path_at w k → text ≡ file_text w.image k → FileRewritten path text out r after → Rewrites (view_if c) k out r after
-rewritten_in c w k path text out r after kept same o exists p t f =
-    let opens = subst (λ (v : View). Opens v.image v.count) same (opens_kept c kept (subst Open (sym same) o)) in
+    → view_if c ≡ w → Open w → Exists w k → path ≡ path_at w k → text ≡ file_text w.image k → FileRewritten path text out r after → Rewrites (view_if c) k out r after
+rewritten_in c w k path text out r after same o exists p t f =
+    let opens = subst (λ (v : View). Opens v.image v.count) same (set_opens c (subst Open (sym same) o)) in
     let here : FileRewritten (path_at w k) (file_text w.image k) out r after = subst (λ (b : Bytes). FileRewritten (path_at w k) b out r after) t (subst (λ (b : Bytes). FileRewritten b text out r after) p f) in
     subst (λ (v : View). Rewrites v k out r after) (sym same) (in_set w k opens exists out r after o here)

@@ -46,7 +46,7 @@ outcome_small : (kind : Kind) (set : Files) (p : Bytes) (before after : sinks.Me
 outcome_small kind set p before after n o low (with_hash h ss e x m g c l) = wrapped_small before after _ l.total
 outcome_small kind set p before after n o low (without e none c same) = same_small before after same low
 
-step_small : (kind : Kind) (s t : Stage) (e : Event) → Small s.sink → Happens kind s e t → Small t.sink
+pub step_small : (kind : Kind) (s t : Stage) (e : Event) → Small s.sink → Happens kind s e t → Small t.sink
 step_small kind s t (took r) low (h, m) = same_small s.sink t.sink m.sink low
 step_small kind s t (settled k (Ok n)) low ((x, o, taken, c, d), b) = outcome_small kind _ _ s.sink t.sink n x.hashes low d.outcome
 step_small kind s t (settled k (Err e)) low ((q, v, same), b) = same_small s.sink t.sink same low

@@ -20,19 +20,20 @@ use Rattle.verdict.specs.declared.fault.Fault.TheVariants.{Unhashed}
 use Rattle.verdict.proofs.Exactly.{accepted_exactly}
 use Rattle.verdict.proofs.One.{one_verdict}
 use Rattle.checker.specs.Calls.{Kind, D, Put, TakeRefused, Takes, Settles, PutsBack, Tells, file_line, Lines, one_accepted, accepted, summary, Tails, Rewrites, Paths, Circles}
-use Rattle.checker.specs.Events.{Window, Event, took, settled, returned, told, located, rewritten, circled, lined, tailed, Stage, Happens, Runs}
+use Rattle.checker.specs.Events.{Event, took, settled, returned, told, located, rewritten, circled, lined, tailed, Stage, Happens, Runs}
 use Rattle.checker.specs.Soundness.{RowRight, SoundView}
-use Rattle.checker.specs.Theorem.{VerdictRight, settles, FileOf, ToldRight, Wrote, AcceptedBy, HowMany, no_files, one_more, no_more, EventRight, AnswersRight, Right, RunTheorem}
+use Rattle.checker.specs.Theorem.{VerdictRight, settles, Numbered, ToldRight, Wrote, AcceptedBy, HowMany, no_files, one_more, no_more, EventRight, AnswersRight, Right, RunTheorem}
 use Rattle.checker.specs.Views as views
-use Rattle.checker.specs.Views.{View, fresh, Exists, PendingAt}
+use Rattle.checker.specs.Views.{View, fresh, Exists, PendingAt, TakenAt}
+use Rattle.checker.specs.declared.call.Window.{Window}
 use Rattle.checker.specs.declared.refused.CallRefusal.{CallRefusal}
 use Rattle.checker.specs.declared.refused.CallRefusal.TheVariants.{NotOpened, VisitOut, NonePending}
 use Rattle.checker.specs.declared.state.Hashes.{Hashes}
 use Rattle.checker.specs.declared.state.Settlement.{Settlement}
 use Rattle.checker.specs.declared.state.State.{State}
 use Rattle.checker.specs.declared.state.State.TheVariants.{Pending, Taken, Settled}
-use Rattle.checker.proofs.Inputs.{run_inputs}
-use Rattle.checker.proofs.Keeping.{is_pending, not_settled, taken_settled, fresh_sound}
+use Rattle.checker.proofs.Keeping.{is_pending, not_settled, not_taken, taken_settled, fresh_sound}
+use Rattle.checker.proofs.Phases.{phase_after}
 use Rattle.checker.proofs.Rewriting.{put_front}
 use Rattle.checker.proofs.Running.{SettledAt, Of, over, settle_count, Ran, ran}
 
@@ -87,10 +88,10 @@ record Known (before : List Event) (v : View) : Type 0 where
 
 module _ (kind : Kind) (img : Bytes) (n : ℕ) (fin : Finite (set_of img n)) where
   module _ (v : View) (a : Of kind img n v) (sound : SoundView kind v) (before : List Event) (known : Known before v) where
-    file_of : (k : ℕ) → Exists v k → FileOf n k
+    file_of : (k : ℕ) → Exists v k → Numbered n k
     file_of k x = (x.0, subst (λ (m : ℕ). k ≤ m) a.count x.1)
 
-    exists : (k : ℕ) → FileOf n k → Exists v k
+    exists : (k : ℕ) → Numbered n k → Exists v k
     exists k x = (x.0, subst (λ (m : ℕ). k ≤ m) (sym a.count) x.1)
 
     not_yet : (k : ℕ) → ((s : Settlement) → v.row k ≡ Settled s → ⊥) → Member k (settles before) → ⊥
@@ -108,7 +109,7 @@ module _ (kind : Kind) (img : Bytes) (n : ℕ) (fin : Finite (set_of img n)) whe
         pending = is_pending v k chosen
     take_right (Err e) w (q, same) = none_left q
       where
-        none_left : TakeRefused v e → e ≡ NonePending → (k : ℕ) → FileOf n k → Member k (settles before)
+        none_left : TakeRefused v e → e ≡ NonePending → (k : ℕ) → Numbered n k → Member k (settles before)
         none_left (inl (not, f)) is k x = absurd (let g : NotOpened ≡ NonePending = sym f ∙ is in cc)
         none_left (inr (o, inl (not, f))) is k x = absurd (let g : VisitOut ≡ NonePending = sym f ∙ is in cc)
         none_left (inr (o, inr (free, inl (not, f)))) is k x = way (v.row k) refl
@@ -241,9 +242,9 @@ module _ (kind : Kind) (img : Bytes) (n : ℕ) (fin : Finite (set_of img n)) whe
   row_of w a sound k s from to e =
       over kind img n (λ i m. RowRight kind (set_of i m) (file_path i k) s) w a (sound.right k s (from, subst (λ (m : ℕ). k ≤ m) (sym a.count) to) e)
 
-  all_right : (start t : Stage) → Of kind img n start.view → SoundView kind start.view → ((k : ℕ) → SettledAt start.view k → ⊥) → (es : List Event)
-      → Runs kind start es t → Right kind img n es t
-  all_right start t a sound none es runs =
+  all_right : (start t : Stage) → Of kind img n start.view → SoundView kind start.view → ((k : ℕ) → SettledAt start.view k → ⊥)
+      → ((k : ℕ) → TakenAt start.view k → ⊥) → (es : List Event) → Runs kind start es t → Right kind img n es t
+  all_right start t a sound none idle es runs =
       let r = ran kind img n es start t runs a sound in
       let known = known_by start a sound none es t r in
       record {
@@ -257,9 +258,9 @@ module _ (kind : Kind) (img : Bytes) (n : ℕ) (fin : Finite (set_of img n)) whe
         exactly = λ k from to. (known.there k, known.back k);
         once = r.gains.once;
         total = r.gains.total;
+        phases = λ k from to. phase_after kind start t es k (from, subst (λ (m : ℕ). k ≤ m) (sym r.is.count) to) runs (idle k) (known.there k) (known.back k);
         one = r.sound.one;
         sound = r.sound;
-        inputs = run_inputs kind es start t runs sound (λ k h x. absurd (none k (x.settlement, x.settled)));
       }
 
 pub run_theorem : RunTheorem
@@ -267,4 +268,4 @@ run_theorem kind img n opens sink buffer es t runs =
     let fin = set_finite img n opens in
     let start : Stage = record { view = fresh img n; sink = sink; buffer = buffer } in
     let is : Of kind img n start.view = record { opened = refl; image = refl; count = refl } in
-    all_right kind img n fin start t is (fresh_sound kind img n) (λ k z. not_settled Pending z.0 refl z.1) es runs
+    all_right kind img n fin start t is (fresh_sound kind img n) (λ k z. not_settled Pending z.0 refl z.1) (λ k z. not_taken Pending refl z.is) es runs

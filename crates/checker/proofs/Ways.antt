@@ -14,7 +14,7 @@ use Rattle.links.specs.declared.table.LinkTable.{LinkTable}
 use Rattle.links.proofs.Files.{set_only, one_number as one_file}
 use Rattle.file_meaning.proofs.Judged.{not_both}
 use Rattle.checker.specs.Calls.{OnCycle}
-use Rattle.checker.specs.Seen.{view_in, view_if, KeptIn}
+use Rattle.checker.specs.Seen.{view_in, view_if}
 use Rattle.checker.specs.Views.{View, Open, files, path_at, Exists}
 use Rattle.checker.specs.Ways.{file_in, NamedIn, Edge, Way, RowSays, Through, AllSay, TurnsBack, flag_at}
 use Rattle.checker.specs.declared.checker.OpenSet.{OpenSet}
@@ -169,5 +169,5 @@ module _ (v : View) (t : LinkTable) (opens : Opens v.image v.count) (linked : Al
       subst (OnCycle v) (sym up) (circle_there v t opens linked (i - 1) less ((all (i - 1) low (i - 1) low).0 (sym (here.says (i - 1) low up))))
 
 -- what the set says is what the checker says
-pub circle_in : (o : Option OpenSet) (s : OpenSet) (n : ℕ) → o ≡ Some s → (KeptIn (Some s) → OnCycle (view_in s) n) → KeptIn o → Open (view_if o) × OnCycle (view_if o) n
-circle_in o s n e f = subst (λ (x : Option OpenSet). KeptIn x → Open (view_if x) × OnCycle (view_if x) n) (sym e) (λ kept. (refl, f kept))
+pub circle_in : (o : Option OpenSet) (s : OpenSet) (n : ℕ) → o ≡ Some s → OnCycle (view_in s) n → Open (view_if o) × OnCycle (view_if o) n
+circle_in o s n e f = subst (λ (x : Option OpenSet). Open (view_if x) × OnCycle (view_if x) n) (sym e) (refl, f)

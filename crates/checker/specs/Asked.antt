@@ -12,16 +12,16 @@ use Rattle.checker.specs.declared.refused.CallRefusal.TheVariants.{NotOpened, No
 use Rattle.checker.specs.declared.state.State.{State}
 
 -- the set that is opened
-abbrev pub SetOf : View → Result (Bor OpenSet) CallRefusal → Type 0
-SetOf v (Ok s) = v ≡ view_in s.now
-SetOf v (Err e) = (v ≡ view_none) × (e ≡ NotOpened)
+abbrev pub SetAsked : View → Result (Bor OpenSet) CallRefusal → Type 0
+SetAsked v (Ok s) = v ≡ view_in s.now
+SetAsked v (Err e) = (v ≡ view_none) × (e ≡ NotOpened)
 
 -- the state of the file k
-abbrev pub StateOf : View → ℕ → Result State CallRefusal → Type 0
-StateOf v k (Ok s) = Exists v k × (s ≡ v.row k)
-StateOf v k (Err e) = (Exists v k → ⊥) × (e ≡ NoFile)
+abbrev pub StateAsked : View → ℕ → Result State CallRefusal → Type 0
+StateAsked v k (Ok s) = Exists v k × (s ≡ v.row k)
+StateAsked v k (Err e) = (Exists v k → ⊥) × (e ≡ NoFile)
 
 -- the file k itself
-abbrev pub FileOf : View → ℕ → Result File CallRefusal → Type 0
-FileOf v k (Ok f) = Exists v k × (f.path.now ≡ path_at v k) × (f.text.now ≡ file_text v.image k)
-FileOf v k (Err e) = (Exists v k → ⊥) × (e ≡ NoFile)
+abbrev pub FileAsked : View → ℕ → Result File CallRefusal → Type 0
+FileAsked v k (Ok f) = Exists v k × (f.path.now ≡ path_at v k) × (f.text.now ≡ file_text v.image k)
+FileAsked v k (Err e) = (Exists v k → ⊥) × (e ≡ NoFile)

@@ -11,7 +11,7 @@ use Rattle.hash_modulo.specs.Strings.{own_strings, fixed_strings, output_string,
 use Rattle.hash_rows.specs.declared.hash.Hash.{Hash}
 use Rattle.report.specs.Texts.{line_text, tail_text}
 use Rattle.right_paths.specs.Worked.{HoldsLast}
-use Rattle.sink.specs.Digest.{digest}
+use Rattle.sink.specs.Digest.{digest, AllWide}
 use Rattle.sink.specs.Write.{Step}
 use Rattle.sink.specs.Write as sinks
 use Rattle.verdict.specs.Judged.{Judged}
@@ -25,12 +25,13 @@ use Rattle.checker.specs.declared.state.Settlement.{Settlement}
 use Rattle.checker.specs.declared.state.State.{State}
 use Rattle.checker.specs.declared.state.State.TheVariants.{Pending, Taken, Settled}
 
--- a kind of digest sink: its step, start, capacity and answer
+-- a kind of digest sink: its step, start, capacity and answer, which has 32 bytes whatever the state
 pub record Kind : Type 0 where
   pub step : Step
   pub start : List ℕ
   pub capacity : ℕ
   pub answer : List ℕ → List ℕ
+  pub wide : AllWide answer
 
 abbrev pub D : Kind → Digest
 D kind = digest kind.step kind.start kind.answer
@@ -106,6 +107,10 @@ pub record Decides (kind : Kind) (set : Files) (p : Bytes) (s : Settlement) (bef
 abbrev pub Settles : Kind → View → ℕ → sinks.Meaning → Result ℕ CallRefusal → View → sinks.Meaning → Type 0
 Settles kind v k before (Ok n) w after = (s : Settlement) × Open v × TakenAt v k × Changes v k (Settled s) w × Decides kind (files v) (path_at v k) s before n after
 Settles kind v k before (Err e) w after = VisitRefused v k e × (w ≡ v) × (after ≡ before)
+
+-- what a settle does whatever was settled before: a file that was taken is settled, and no other changes
+abbrev pub SomeSettled : View → ℕ → View → Type 0
+SomeSettled v k w = (s : Settlement) × Open v × TakenAt v k × Changes v k (Settled s) w
 
 abbrev pub PutsBack : {T : Type 0} → View → ℕ → Result T CallRefusal → View → Type 0
 PutsBack v k (Ok _) w = Open v × TakenAt v k × Changes v k Pending w

@@ -1,17 +1,15 @@
 -- Lists of calls over one checker, one sink and one buffer: what one call leaves the next finds.
 -- Source: this project's own rule (docs/CALLS.md, "Runs").
 use Rattle.std.specs.Prelude.{◌≡◌, ℕ, ◌+◌, List, [], ◌∷◌, ◌++◌, take, drop, Option, Result}
+use Rattle.std.specs.Result.{IsErr}
 use Rattle.sink.specs.Write as sinks
 use Rattle.verdict.specs.Verdicts.{Verdict}
 use Rattle.checker.specs.Calls.{Kind, Takes, Settles, PutsBack, Tells, Lines, Tails, Rewrites, Paths, Circles}
 use Rattle.checker.specs.Views.{View}
+use Rattle.checker.specs.declared.call.Window.{Window}
 use Rattle.checker.specs.declared.refused.CallRefusal.{CallRefusal}
 
--- the part of a buffer that a call is lent: where it begins and how long it is at most
-pub record Window : Type 0 where
-  pub from : ℕ
-  pub size : ℕ
-
+-- the part of a buffer that a window lends
 abbrev pub part : Window → List ℕ → List ℕ
 part w buffer = take w.size (drop w.from buffer)
 
@@ -31,6 +29,18 @@ pub data Event : Type 0 where
   circled : Result ℕ CallRefusal → Event
   lined : (k : ℕ) → Window → (out : List ℕ) → Result ℕ CallRefusal → Event
   tailed : Window → (out : List ℕ) → Result ℕ CallRefusal → Event
+
+-- the call was refused
+abbrev pub Refused : Event → Type 0
+Refused (took r) = IsErr r
+Refused (settled k r) = IsErr r
+Refused (returned k r) = IsErr r
+Refused (told k r) = IsErr r
+Refused (located k j w out r) = IsErr r
+Refused (rewritten k w out r) = IsErr r
+Refused (circled r) = IsErr r
+Refused (lined k w out r) = IsErr r
+Refused (tailed w out r) = IsErr r
 
 -- a call with its arguments and without its answer
 pub data Request : Type 0 where

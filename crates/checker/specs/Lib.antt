@@ -12,3 +12,5 @@ pub mod Asked
 pub mod Settling
 pub mod Soundness
 pub mod Theorem
+pub mod Playing
+pub mod Reports

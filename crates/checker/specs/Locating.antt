@@ -7,15 +7,15 @@ use Rattle.derivation.specs.Questions.{output_name}
 use Rattle.file_meaning.specs.Reads.{Reads}
 use Rattle.hash_modulo.specs.Hashes.{Fixed}
 use Rattle.hash_modulo.specs.Paths.{file_name, References, OwnPath, MaskedString, made_path, fixed_path}
-use Rattle.hash_modulo.specs.Sets.{Bytes, Means, Row, Names}
+use Rattle.hash_modulo.specs.Sets.{Bytes, Means, Readable, Row, Names}
 use Rattle.hash_modulo.specs.Strings.{own_strings, fixed_strings, output_string, no_output}
 use Rattle.sink.specs.Numerals.{hex}
 use Rattle.sink.specs.Write as sinks
-use Rattle.checker.specs.Calls.{Kind, D, Holds, Put, ReadsTo}
+use Rattle.checker.specs.Calls.{Kind, D, Holds, Put, ReadsTo, HasHash, HasOutput}
 use Rattle.checker.specs.Refusals.{Ask, Done}
-use Rattle.checker.specs.Views.{View, files, path_at, NumberOf, HashedAt}
+use Rattle.checker.specs.Views.{View, Open, files, path_at, Exists, NumberOf, HashedAt}
 use Rattle.checker.specs.declared.refused.CallRefusal.{CallRefusal}
-use Rattle.checker.specs.declared.refused.CallRefusal.TheVariants.{NoHash, NoOutput, Short}
+use Rattle.checker.specs.declared.refused.CallRefusal.TheVariants.{NotOpened, NoFile, NoHash, NoOutput, Short}
 use Rattle.checker.specs.declared.state.Hashes.{Hashes}
 
 -- how long a store path with this name is
@@ -63,7 +63,20 @@ LocatedIfRead kind v path text j out before r after sink =
     ((m : Meaning) × Reads path text m × FileLocated kind v path m j out before r after sink)
     ⊎ ((ReadsTo path text → ⊥) × (r ≡ Err NoHash) × (after ≡ out) × (sink ≡ before))
 
--- each input of a file that is settled with a hash is settled with one
-abbrev pub InputsKept : View → Type 0
-InputsKept v = (k : ℕ) (h : Hashes) → HashedAt v k h → (m : Meaning) → Means (files v) (path_at v k) m
-    → (r : Row) → Names m r → (j : ℕ) × (i : Hashes) × NumberOf v r.0 j × HashedAt v j i
+-- the name in right path j of the file at p that means m
+abbrev pub path_name : Bytes → Meaning → ℕ → Bytes
+path_name p m zero = file_name p
+path_name p m (suc i) = output_name p (slice_index_or m.0 i no_output).0
+
+-- the file k is settled with a hash, and reads: in a sound view each file with a hash does
+abbrev pub HashedAndReads : View → ℕ → Type 0
+HashedAndReads v k = HasHash v k × Readable (files v) (path_at v k)
+
+-- a store path with the name in right path j is no longer than that
+abbrev pub NameFits : View → ℕ → ℕ → ℕ → Type 0
+NameFits v k j room = (m : Meaning) → Means (files v) (path_at v k) m → path_length (path_name (path_at v k) m j) ≤ room
+
+-- the questions of path as they are put whatever the files were settled with: how long a path is, its name tells
+abbrev pub PathRefused : View → ℕ → ℕ → ℕ → CallRefusal → Type 0
+PathRefused v k j room =
+    Ask (Open v) NotOpened (Ask (Exists v k) NoFile (Ask (HashedAndReads v k) NoHash (Ask (HasOutput v k j) NoOutput (Ask (NameFits v k j room) Short Done))))

@@ -25,3 +25,11 @@ OpenRefused v img (Image e) = (Open v → ⊥) × Refused img e
 abbrev pub OpensSet : View → Bytes → Result (Unit {0}) OpenRefusal → View → Type 0
 OpensSet v img (Ok _) w = (Open v → ⊥) × ((n : ℕ) × Opens img n × (w ≡ fresh img n))
 OpensSet v img (Err e) w = OpenRefused v img e × (w ≡ v)
+
+-- whatever was opened before, and whatever the image, open has an answer
+abbrev pub SomeOpening : Type 0
+SomeOpening = (v : View) (img : Bytes) → (r : Result (Unit {0}) OpenRefusal) × (w : View) × OpensSet v img r w
+
+-- and one only, and it leaves one view
+abbrev pub OneOpening : Type 0
+OneOpening = (v : View) (img : Bytes) (r s : Result (Unit {0}) OpenRefusal) (w x : View) → OpensSet v img r w → OpensSet v img s x → (r ≡ s) × (w ≡ x)

@@ -1,9 +1,7 @@
--- What the code's checker stands for, and what is kept right in it whatever the digest.
+-- What the code's checker stands for.
 -- Source: this project's own rule (docs/CALLS.md, "Calls").
-use Rattle.std.specs.Prelude.{◌≡◌, ℕ, Bool, true, false, [], ◌∷◌, Some, None, Option, Ok, Err, Result, Decides}
+use Rattle.std.specs.Prelude.{ℕ, Bool, true, false, [], ◌∷◌, Some, None, Option, Ok, Err, Result, Decides}
 use Rattle.image.specs.Files.{bytes_of, files_of}
-use Rattle.image.specs.Opening.{Opens}
-use Rattle.links.specs.Linked.{AllLinked}
 use Rattle.checker.specs.Rows.{row_at}
 use Rattle.checker.specs.Views.{View, ReadyAt}
 use Rattle.checker.specs.declared.checker.Checker.{Checker}
@@ -14,7 +12,7 @@ use Rattle.checker.specs.declared.state.State.TheVariants.{Pending}
 
 -- a set that is opened
 abbrev pub view_in : OpenSet → View
-view_in s = record { opened = true; image = bytes_of s.image; count = files_of s.image; row = row_at s.states }
+view_in s = record { opened = true; image = bytes_of s.files.image; count = files_of s.files.image; row = row_at s.states }
 
 -- before a set is opened there are no files
 abbrev pub view_none : View
@@ -27,27 +25,9 @@ view_if (Some s) = view_in s
 abbrev pub view_of : Checker → View
 view_of c = view_if c.opened
 
--- an opened set: its image opens, and the links are those of its files
-abbrev pub KeptIn : Option OpenSet → Type 0
-KeptIn None = Unit {0}
-KeptIn (Some s) = Opens (bytes_of s.image) (files_of s.image) × AllLinked (bytes_of s.image) (files_of s.image) s.links
-
-abbrev pub Kept : Checker → Type 0
-Kept c = KeptIn c.opened
-
--- r says whether the file k of a set that is kept right is pending and ready
+-- r says whether the file k is pending and ready
 pub record SaysReady (s : OpenSet) (k : ℕ) (r : Bool) : Type 0 where
-  pub says : KeptIn (Some s) → Decides r (ReadyAt (view_in s) k)
-
--- the set and what is kept of it stay
-abbrev pub StaysIn : Option OpenSet → Option OpenSet → Type 0
-StaysIn None None = Unit {0}
-StaysIn None (Some t) = ⊥
-StaysIn (Some s) None = ⊥
-StaysIn (Some s) (Some t) = (t.image ≡ s.image) × (t.links ≡ s.links)
-
-abbrev pub Stays : Checker → Checker → Type 0
-Stays c d = StaysIn c.opened d.opened
+  pub says : Decides r (ReadyAt (view_in s) k)
 
 -- the answers of calls with visits, by file numbers
 abbrev pub visited : Result Visit CallRefusal → Result ℕ CallRefusal

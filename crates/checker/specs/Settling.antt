@@ -13,13 +13,13 @@ use Rattle.hash_rows.specs.declared.hash.Hash.{Hash}
 use Rattle.links.specs.declared.link.Links.{Links}
 use Rattle.right_paths.specs.Worked.{FileWorked}
 use Rattle.right_paths.specs.declared.hashes.FileHashes.{FileHashes}
+use Rattle.sink.specs.Digest.{AllWide}
 use Rattle.sink.specs.Write.{Step}
 use Rattle.sink.specs.Write as sinks
 use Rattle.verdict.specs.Judged.{PathsJudged}
 use Rattle.verdict.specs.declared.fault.Fault.{Fault}
 use Rattle.checker.specs.Calls.{Kind, D, Decides}
 use Rattle.verdict.specs.declared.fault.Fault.TheVariants as fault
-use Rattle.image.specs.Opening.{Opens}
 use Rattle.checker.specs.Soundness.{SoundView}
 use Rattle.checker.specs.Standings.{FirstLink}
 use Rattle.checker.specs.Views.{View, files, path_at, NumberOf, TakenAt, HashedAt}
@@ -76,8 +76,8 @@ pub data LinksAsked (row : ℕ → State) (l : Links) (inputs : List (Placed Inp
 
 -- ---- a file whose inputs are settled with hashes
 
-abbrev pub kind_of : Step → List ℕ → ℕ → (List ℕ → List ℕ) → Kind
-kind_of step start capacity answer = record { step = step; start = start; capacity = capacity; answer = answer }
+abbrev pub kind_of : Step → List ℕ → ℕ → (answer : List ℕ → List ℕ) → AllWide answer → Kind
+kind_of step start capacity answer wide = record { step = step; start = start; capacity = capacity; answer = answer; wide = wide }
 
 -- what is worked out for the file at `path` with this text from the hashes of its inputs, each of which is the kept one where the input is settled with one,
 -- and what it is judged by them
@@ -101,5 +101,5 @@ pub data ReadSettled (kind : Kind) (v : View) (l : Links) (inputs : List (Placed
 
 -- of a file of a sound view that is taken it is what is decided
 abbrev pub ReadDecided : Kind → View → Bytes → Bytes → sinks.Meaning → Settlement → ℕ → sinks.Meaning → Type 0
-ReadDecided kind v path text before s n after = Opens v.image v.count → SoundView kind v → (k : ℕ) → TakenAt v k → path_at v k ≡ path
+ReadDecided kind v path text before s n after = SoundView kind v → (k : ℕ) → TakenAt v k → path_at v k ≡ path
     → files v path ≡ Some text → Decides kind (files v) path s before n after

@@ -1,13 +1,24 @@
 // The checker's types; the modules below have what it does.
+ghost use Rattle.image.specs.Files.{bytes_of, files_of};
+ghost use Rattle.links.specs.Linked.{AllLinked};
+
 use crate::states::States;
 use image::Image;
 use links::LinkTable;
 
-// A set that is opened: its image, what is kept of its files, and one row a file with its state.
+// An image that has opened, and what is kept of its files.
+// A struct of its own, so that a row of the states beside it can be lent to be changed.
 #[derive(Drop)]
-struct OpenSet<'a> {
+struct LinkedImage<'a> {
     image: Image<'a>,
     links: LinkTable,
+    ghost linked: { ∥ AllLinked (bytes_of image) (files_of image) links ∥₁ },
+}
+
+// A set that is opened: its files, and one row a file with its state.
+#[derive(Drop)]
+struct OpenSet<'a> {
+    files: LinkedImage<'a>,
     states: States,
 }
 
@@ -29,6 +40,7 @@ pub mod locating;
 pub mod opening;
 pub mod reporting;
 pub mod rewriting;
+pub mod running;
 pub mod settling;
 pub mod visits;
 pub mod writing;

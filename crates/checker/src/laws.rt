@@ -1,27 +1,41 @@
 // The laws of calls, each a clause of one contract.
-ghost use Rattle.checker.specs.Theorem.{CountIsRise, EveryCallAnswers, EveryListRuns, InputsStay, OneCallAnswer, RewrittenAlike, RewrittenAgain, RunTheorem, RunsSplit, SoundHashesHold, SoundSteps, TotalsSmall};
+ghost use Rattle.checker.specs.Opened.{OneOpening, SomeOpening};
+ghost use Rattle.checker.specs.Theorem.{CountIsRise, EveryCallAnswers, EveryListRuns, FreshSound, OneCallAnswer, RefusedStays, RewrittenAlike, RewrittenAgain, RunTheorem, RunsSplit, SoundHashesHold, SoundSteps, TotalsRise, TotalsSmall, WrittenStays};
 
-// For every kind of digest sink, every image that opens and every list of calls, every answer that is no refusal is the definition's, settled files have its verdicts and hashes, each file is settled once, and the counts add up.
-// Every call leaves a sound view sound and, there, the inputs of each file settled with a hash settled with one; a front of a run is a run.
+// For every kind of digest sink, every image that opens and every list of calls, every answer that is no refusal is the definition's, settled files have its verdicts and hashes, each file is settled once, the counts add up, and which file is pending, taken or settled follows from the calls.
+// A newly opened checker is sound, and every call leaves a sound view sound; a refused call leaves the files, the sink and the buffer as they were; a front of a run is a run.
+// Of the buffer a call changes the bytes of the text that it writes at the start of its part, and no other.
 pub fn runs_stand() -> bool
     ensures right { RunTheorem }
+    ensures fresh { FreshSound }
     ensures sound { SoundSteps }
-    ensures inputs { InputsStay }
+    ensures refused { RefusedStays }
+    ensures written { WrittenStays }
     ensures split { RunsSplit }
 {
     true
 }
 
+// Whatever was opened before and whatever the image, open has an answer, and one only.
+pub fn opening_stands() -> bool
+    ensures some { SomeOpening }
+    ensures one { OneOpening }
+{
+    true
+}
+
 // Each settle's count is the rise of the sink's total, modulo 2^64, and a total stays below that.
+// Along every run the total rises by the settles' counts and the lengths of the strings digested for paths, modulo 2^64.
 pub fn counts_are_rises() -> bool
     ensures rise { CountIsRise }
     ensures small { TotalsSmall }
+    ensures run { TotalsRise }
 {
     true
 }
 
 // Whatever the checker's image and states, the digest sink and the buffer, every call has an answer:
-// settle where the digest has 32 bytes, path where the files settled with hashes can have them, as in every sound view.
+// path where the files settled with hashes can have them, as in every sound view.
 // So every list of calls has a run.
 pub fn every_call_answers() -> bool
     ensures every { EveryCallAnswers }
@@ -38,7 +52,7 @@ pub fn one_answer_a_call() -> bool
     true
 }
 
-// Two files that read, of one image or of two, are rewritten alike exactly where their meanings are equal, and a rewritten text at its path is rewritten to itself.
+// Two files that read, of one image or of two, are rewritten alike exactly where their meanings are equal, and a rewritten text at its path is rewritten to itself, of its length.
 pub fn rewriting_stands() -> bool
     ensures alike { RewrittenAlike }
     ensures again { RewrittenAgain }

@@ -98,16 +98,16 @@ abbrev pub one : Tree derivation → Spot × Entry
 one x = (record { field = Outputs; row = 0; place = 0 }, all_outputs x.0)
 
 module _ (x : Tree derivation) where
-  abbrev outs : List (Spot × Entry)
+  abbrev pub outs : List (Spot × Entry)
   outs = tagged output_row (output_rows x)
 
-  abbrev ins : List (Spot × Entry)
+  abbrev pub ins : List (Spot × Entry)
   ins = tagged input_row (input_rows x)
 
-  abbrev srcs : List (Spot × Entry)
+  abbrev pub srcs : List (Spot × Entry)
   srcs = tagged source_row (source_rows x)
 
-  abbrev vars : List (Spot × Entry)
+  abbrev pub vars : List (Spot × Entry)
   vars = tagged variable_row (variable_rows x)
 
   -- 13

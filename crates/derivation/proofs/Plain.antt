@@ -6,8 +6,9 @@ use Rattle.aterm.specs.Files.{output, input, derivation}
 use Rattle.derivation.specs.declared.field.Field.TheVariants.{Outputs, Inputs, Sources}
 use Rattle.derivation.specs.declared.spot.Spot.{Spot}
 use Rattle.derivation.specs.Asked.{First, Throughout}
-use Rattle.derivation.specs.Questions.{Entry, output_row, input_row, source_row, variable_row, tagged, output_rows, input_rows, source_rows, variable_rows, entries, formed, formed_output, formed_name, formed_input, formed_source}
+use Rattle.derivation.specs.Questions.{Entry, output_row, input_row, source_row, tagged, output_rows, input_rows, source_rows, entries, formed, formed_output, formed_name, formed_input, formed_source}
 use Rattle.derivation.specs.Plain.{AsItStands, PlainOutput, PlainInput, PlainFields}
+use Rattle.derivation.proofs.Files.{outs, ins, srcs, vars}
 use Rattle.derivation.proofs.Scan.{to_throughout}
 use Rattle.derivation.proofs.Meant.{plain_means}
 
@@ -48,24 +49,12 @@ module _ (x : Tree derivation) (a : First formed (entries x) None) where
   abbrev P : Spot × Entry → Type 0
   P e = formed e.1
 
-  abbrev outs : List (Spot × Entry)
-  outs = tagged output_row (output_rows x)
-
-  abbrev ins : List (Spot × Entry)
-  ins = tagged input_row (input_rows x)
-
-  abbrev srcs : List (Spot × Entry)
-  srcs = tagged source_row (source_rows x)
-
-  abbrev vars : List (Spot × Entry)
-  vars = tagged variable_row (variable_rows x)
-
   pub plain_fields : PlainFields x
   plain_fields =
-      let os : AllByRecursion P outs = all_first P outs (ins ++ (srcs ++ vars)) a.1 in
-      let after : AllByRecursion P (ins ++ (srcs ++ vars)) = all_second P outs (ins ++ (srcs ++ vars)) a.1 in
-      let is : AllByRecursion P ins = all_first P ins (srcs ++ vars) after in
-      let ss : AllByRecursion P srcs = all_first P srcs vars (all_second P ins (srcs ++ vars) after) in
+      let os : AllByRecursion P (outs x) = all_first P (outs x) (ins x ++ (srcs x ++ vars x)) a.1 in
+      let after : AllByRecursion P (ins x ++ (srcs x ++ vars x)) = all_second P (outs x) (ins x ++ (srcs x ++ vars x)) a.1 in
+      let is : AllByRecursion P (ins x) = all_first P (ins x) (srcs x ++ vars x) after in
+      let ss : AllByRecursion P (srcs x) = all_first P (srcs x) (vars x) (all_second P (ins x) (srcs x ++ vars x) after) in
       record {
         outputs = from_each formed_output PlainOutput plain_output [] x.0 (to_throughout output formed_output Outputs 8 [] x.0 (untagged formed output_row (output_rows x) os));
         inputs = from_each formed_input PlainInput plain_input [] x.1.0 (to_throughout input formed_input Inputs _ [] x.1.0 (untagged formed input_row (input_rows x) is));

@@ -4,7 +4,7 @@ use Rattle.std.proofs.lemmas.Bool.{cases_eq}
 use Rattle.aterm.specs.Grammar.{Tree, string, raw, meaning}
 use Rattle.aterm.specs.Files.{output, input, derivation}
 use Rattle.store_path.specs.Names.{StorePath}
-use Rattle.store_path.proofs.Deciding.{Known, both, like, no_longer, at_most, same_text, has, all, name, full_store_path, drv}
+use Rattle.store_path.proofs.Deciding.{Known, both, either, like, no_longer, at_most, same_text, has, all, name, full_store_path, drv}
 use Rattle.derivation.specs.declared.spot.Spot.{Spot}
 use Rattle.derivation.specs.declared.question.Question.{Question}
 use Rattle.derivation.specs.declared.question.Question.TheVariants.{Present, Formed, Different, Fixed, Short}
@@ -13,11 +13,6 @@ use Rattle.derivation.specs.Questions.{Entry, all_outputs, output_row, input_row
 use Rattle.derivation.specs.Judgement.{Answer}
 use Rattle.derivation.specs.Total.{EveryTree}
 use Rattle.derivation.proofs.Judging.{below_13, below_14, below_15, below_16, below_17, every_question}
-
-either : {P Q : Type 0} → Known P → Known Q → Known (P ⊎ Q)
-either (inl p) q = inl (inl p)
-either (inr p) (inl q) = inl (inr q)
-either (inr p) (inr q) = inr (λ z. elim z [ inl x ↦ p x | inr y ↦ q y ])
 
 pub filled : {X : Type 0} (x : X) (xs : List X) → x ∷ xs ≡ [] → ⊥
 filled x xs e = cc

@@ -1,8 +1,8 @@
-// drvcheck < IMAGE: what an image of derivation files holds.
+// drvcheck < IMAGE: the verdict of each file of an image of derivations.
 #![tactic(auto)]
 
-use listing_text::listing_of;
 use recorder::Recorder;
+use report_text::report_of;
 use sha256::Sha256;
 use std::io::Read;
 
@@ -13,8 +13,8 @@ fn run(rt: &HostRuntime) -> anyhow::Result<()> {
     let mut bytes = Vec::new(rt.alloc());
     rt.stdin().take(MOST_READ).read_to_end(&mut bytes)?;
     let mut digest = Recorder::new(Sha256::new());
-    let listing = listing_of(rt.alloc(), &mut digest, &bytes)?;
-    rt.write_all(&listing)?;
+    let report = report_of(rt.alloc(), &mut digest, &bytes)?;
+    rt.write_all(&report)?;
     Ok(())
 }
 

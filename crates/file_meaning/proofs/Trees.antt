@@ -4,10 +4,11 @@ use Rattle.std.proofs.ByRecursion.{All-append}
 use Rattle.std.specs.List.{AllByRecursion}
 use Rattle.aterm.specs.Files.{output, input, variable, derivation}
 use Rattle.aterm.specs.Grammar.{Tree, string, raw}
+use Rattle.derivation.proofs.Files.{outs, ins, srcs, vars}
 use Rattle.derivation.proofs.Plain.{all_first, all_second}
 use Rattle.derivation.specs.Asked.{Throughout}
 use Rattle.derivation.specs.Judgement.{Answer}
-use Rattle.derivation.specs.Questions.{Entry, all_outputs, output_row, input_row, source_row, variable_row, tagged, output_rows, input_rows, source_rows, variable_rows, entries, named, present, formed_output, formed_input, formed_source, formed, different_output, different_input, different_source, different_variable, different, FixedFile, blank, settled, output_name, short}
+use Rattle.derivation.specs.Questions.{Entry, all_outputs, output_row, input_row, source_row, variable_row, entries, named, present, formed_output, formed_input, formed_source, formed, different_output, different_input, different_source, different_variable, different, FixedFile, blank, settled, output_name, short}
 use Rattle.derivation.specs.declared.question.Question.{Question}
 use Rattle.derivation.specs.declared.question.Question.TheVariants.{Present, Formed, Different, Fixed, Short}
 use Rattle.derivation.specs.declared.field.Field.TheVariants.{Outputs, Inputs, Sources, Environment}
@@ -26,36 +27,24 @@ module _ (Y : Entry → Type 0) (x : Tree derivation) where
   abbrev P : Spot × Entry → Type 0
   P e = Y e.1
 
-  abbrev outs : List (Spot × Entry)
-  outs = tagged output_row (output_rows x)
-
-  abbrev ins : List (Spot × Entry)
-  ins = tagged input_row (input_rows x)
-
-  abbrev srcs : List (Spot × Entry)
-  srcs = tagged source_row (source_rows x)
-
-  abbrev vars : List (Spot × Entry)
-  vars = tagged variable_row (variable_rows x)
-
   split : AllByRecursion P (entries x) → Split Y x
   split a =
-      let after : AllByRecursion P (ins ++ (srcs ++ vars)) = all_second P outs (ins ++ (srcs ++ vars)) a.1 in
-      let rest : AllByRecursion P (srcs ++ vars) = all_second P ins (srcs ++ vars) after in
+      let after : AllByRecursion P (ins x ++ (srcs x ++ vars x)) = all_second P (outs x) (ins x ++ (srcs x ++ vars x)) a.1 in
+      let rest : AllByRecursion P (srcs x ++ vars x) = all_second P (ins x) (srcs x ++ vars x) after in
       record {
         whole = a.0;
-        outputs = throughout output Outputs output_row Y _ [] x.0 (all_first P outs (ins ++ (srcs ++ vars)) a.1);
-        inputs = throughout input Inputs input_row Y _ [] x.1.0 (all_first P ins (srcs ++ vars) after);
-        sources = throughout string Sources source_row Y _ [] x.1.1.0 (all_first P srcs vars rest);
-        variables = throughout variable Environment variable_row Y _ [] x.1.1.1.1.1.1 (all_second P srcs vars rest);
+        outputs = throughout output Outputs output_row Y _ [] x.0 (all_first P (outs x) (ins x ++ (srcs x ++ vars x)) a.1);
+        inputs = throughout input Inputs input_row Y _ [] x.1.0 (all_first P (ins x) (srcs x ++ vars x) after);
+        sources = throughout string Sources source_row Y _ [] x.1.1.0 (all_first P (srcs x) (vars x) rest);
+        variables = throughout variable Environment variable_row Y _ [] x.1.1.1.1.1.1 (all_second P (srcs x) (vars x) rest);
       }
 
   join : Split Y x → AllByRecursion P (entries x)
   join s = (
     s.whole,
-    All-append P outs (ins ++ (srcs ++ vars)) (tagged_all output Outputs output_row Y _ [] x.0 s.outputs)
-        (All-append P ins (srcs ++ vars) (tagged_all input Inputs input_row Y _ [] x.1.0 s.inputs)
-        (All-append P srcs vars (tagged_all string Sources source_row Y _ [] x.1.1.0 s.sources) (tagged_all variable Environment variable_row Y _ [] x.1.1.1.1.1.1 s.variables))),
+    All-append P (outs x) (ins x ++ (srcs x ++ vars x)) (tagged_all output Outputs output_row Y _ [] x.0 s.outputs)
+        (All-append P (ins x) (srcs x ++ vars x) (tagged_all input Inputs input_row Y _ [] x.1.0 s.inputs)
+        (All-append P (srcs x) (vars x) (tagged_all string Sources source_row Y _ [] x.1.1.0 s.sources) (tagged_all variable Environment variable_row Y _ [] x.1.1.1.1.1.1 s.variables))),
   )
 
 -- every row is fixed by the whole, or is blank: the whole is fixed, or all are blank

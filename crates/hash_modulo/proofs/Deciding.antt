@@ -4,22 +4,17 @@ use Rattle.std.proofs.lemmas.Bool.{cases_eq}
 use Rattle.canonical.specs.Kinds.{Value}
 use Rattle.canonical.specs.Meanings.{an_output, Meaning}
 use Rattle.derivation.specs.Questions.{Kind, md5, sha1, sha256, sha512, spelt, digits, hex, GivenAs, Given}
-use Rattle.store_path.proofs.Deciding.{Known, both, like, same_text, has, all}
+use Rattle.store_path.proofs.Deciding.{Known, both, either, like, same_text, has, all}
 use Rattle.hash_modulo.specs.Hashes.{Fixed}
-
-or : {P Q : Type 0} → Known P → Known Q → Known (P ⊎ Q)
-or (inl p) q = inl (inl p)
-or (inr n) (inl q) = inl (inr q)
-or (inr n) (inr k) = inr (λ s. elim s [ inl p ↦ n p | inr q ↦ k q ])
 
 given_as? : (k : Kind) (a h : List ℕ) → Known (GivenAs k a h)
 given_as? k a h =
     like (λ p. record { named = p.0; long = p.1.0; each = p.1.1 }) (λ g. (g.named, (g.long, g.each)))
-    (both (or (same_text a (spelt k)) (same_text a (codes "r:" ++ spelt k))) (both (cases_eq (length h) (digits k)) (all (has hex) h)))
+    (both (either (same_text a (spelt k)) (same_text a (codes "r:" ++ spelt k))) (both (cases_eq (length h) (digits k)) (all (has hex) h)))
 
 given? : (a h : List ℕ) → Known (Given a h)
 given? a h =
-    like there back (or (given_as? md5 a h) (or (given_as? sha1 a h) (or (given_as? sha256 a h) (given_as? sha512 a h))))
+    like there back (either (given_as? md5 a h) (either (given_as? sha1 a h) (either (given_as? sha256 a h) (given_as? sha512 a h))))
   where
     there : GivenAs md5 a h ⊎ (GivenAs sha1 a h ⊎ (GivenAs sha256 a h ⊎ GivenAs sha512 a h)) → Given a h
     there (inl g) = (md5, g)

@@ -1,16 +1,17 @@
 -- The strings digested for a file are there, one list of them, each short; right paths are one each; all depend on texts only through their meanings.
-use Rattle.std.proofs.Common.{◌≡◌, ℕ, ◌⊎◌, List, ◌∷◌, ◌++◌, map, length, get_or, sym, refl, ap, ◌∙◌, subst, inl, inr}
+use Rattle.std.proofs.Common.{◌≡◌, ℕ, zero, suc, ◌<◌, ◌≤◌, ◌⊎◌, List, ◌∷◌, ◌++◌, map, length, get_or, sym, refl, ap, ◌∙◌, subst, inl, inr, arith}
 use Rattle.canonical.specs.Meanings.{Meaning}
 use Rattle.file_meaning.specs.Reads.{Reads}
 use Rattle.hash_modulo.specs.Hashes.{Digest, Fixed, fixed_string, Hashed, hashed, HashString}
-use Rattle.hash_modulo.specs.Laws.{StringsStand, Wide, StringsShort, DigestedStand, OneRightPath, SameMeanings, MeaningAlone}
+use Rattle.hash_modulo.specs.Laws.{StringsStand, Wide, StringsShort, DigestedStand, OneRightPath, SomeRightPath, SameMeanings, MeaningAlone}
 use Rattle.hash_modulo.specs.Paths.{References, OwnPath, OutputPath, MaskedString}
 use Rattle.hash_modulo.specs.Sets.{Bytes, Files, Means, Row, Names, Ready, Hashable, hashable}
 use Rattle.hash_modulo.specs.Strings.{own_strings, fixed_strings, output_string, FileStrings, of_fixed, of_text, InputsHashed, Digested, no_output, RightPath, own, output}
 use Rattle.hash_modulo.proofs.Deciding.{fixed?}
-use Rattle.hash_modulo.proofs.Hashes.{one_text, one_meaning, only_once, one_string, some_string, one_hash_each, chosen, has_hash}
+use Rattle.hash_modulo.proofs.Founding.{hashable_ready}
+use Rattle.hash_modulo.proofs.Hashes.{one_text, one_meaning, only_once, one_string, some_string, one_hash_each, chosen, has_hash, inputs_hashable}
 use Rattle.hash_modulo.proofs.Lengths.{strings_short_at}
-use Rattle.hash_modulo.proofs.Paths.{references, one_list, masked_string, one_masked, own_paths, one_output}
+use Rattle.hash_modulo.proofs.Paths.{references, one_list, masked_string, one_masked, own_paths, one_output, output_paths}
 use Rattle.hash_modulo.proofs.Within.{within_limits}
 
 -- ---- the strings of a meaning
@@ -81,6 +82,26 @@ one_right_path set d p j q r (output m e y g i k l a) (output n f z h o k' l' b)
     let o' : InputsHashed set d m h = subst (λ (x : Meaning). InputsHashed set d x h) same o in
     let b' : OutputPath d p h m (get_or m.0 k no_output) r = subst (λ (x : Meaning). OutputPath d p h x (get_or x.0 k no_output) r) same b in
     one_output d p g h m (get_or m.0 k no_output) q r (λ t u. one_hash_each set d t.0 (g t.0) (h t.0) (i t u) (o' t u)) a b'
+
+own_right_path : (set : Files) (d : Digest) (p : Bytes) (m : Meaning) → Means set p m → (q : Bytes) × RightPath set d p zero q
+own_right_path set d p m e = let z = own_paths.some d p m in (z.0, own m e z.1)
+
+each_right_path : (set : Files) (d : Digest) (p : Bytes) (m : Meaning) → Means set p m → Hashable set p
+    → (j : ℕ) → j ≤ length m.0 → (q : Bytes) × RightPath set d p j q
+each_right_path set d p m e h zero l = own_right_path set d p m e
+each_right_path set d p m e h (suc i) l =
+    let g = chosen (Hashed set d) m.1.0 (λ r o. has_hash set d (inputs_hashable h m e r o)) in
+    let z = output_paths.some d p g.0 m (get_or m.0 i no_output) in
+    (z.0, output m e (hashable_ready h m e) g.0 g.1 i (omega arith) z.1)
+
+no_right_path : (set : Files) (d : Digest) (p : Bytes) (m : Meaning) → Means set p m → (j : ℕ) → length m.0 < j → (q : Bytes) → RightPath set d p j q → ⊥
+no_right_path set d p m e j past q (own n f a) = omega arith
+no_right_path set d p m e j past q (output n f y g i k l a) =
+    let same : length n.0 ≡ length m.0 = ap (λ (x : Meaning). length x.0) (one_meaning set p n m f e) in
+    omega (arith, same, l, past)
+
+pub some_right_path : SomeRightPath
+some_right_path = record { own = own_right_path; some = each_right_path; none = no_right_path }
 
 -- ---- through the meanings
 

@@ -7,6 +7,7 @@ use Rattle.canonical.specs.Kinds.{Value, comma, listing, canon}
 use Rattle.canonical.specs.Meanings.{an_output, an_input, a_variable, Meaning, canonical}
 use Rattle.canonical.specs.Order.{Under, Member, Rising}
 use Rattle.canonical.specs.Strings.{escaped, quoted}
+use Rattle.canonical.proofs.Bound.{spells_short, wide, joined_length, listing_length}
 use Rattle.canonical.proofs.Members.{member_all, total, total_rising}
 use Rattle.derivation.specs.Questions.{stem, output_name}
 use Rattle.hash_rows.specs.Keyed as keyed
@@ -21,15 +22,6 @@ use Rattle.hash_modulo.proofs.Paths.{member_left, member_right, paths, path_ther
 
 -- ---- strings between quotes
 
-escaped_short : (b : ℕ) → length (escaped b) ≤ 2
-escaped_short b =
-    let P : List ℕ → Type 0 = λ l. length l ≤ 2 in
-    cond_both (eqb b 34) _ _ P (λ _. omega arith) (λ _.
-    cond_both (eqb b 92) _ _ P (λ _. omega arith) (λ _.
-    cond_both (eqb b 10) _ _ P (λ _. omega arith) (λ _.
-    cond_both (eqb b 13) _ _ P (λ _. omega arith) (λ _.
-    cond_both (eqb b 9) _ _ P (λ _. omega arith) (λ _. omega arith)))))
-
 escaped_long : (b : ℕ) → 1 ≤ length (escaped b)
 escaped_long b =
     let P : List ℕ → Type 0 = λ l. 1 ≤ length l in
@@ -41,7 +33,7 @@ escaped_long b =
 
 inside_most : (v : Bytes) → length (flat_map escaped v) ≤ 2 * length v
 inside_most [] = omega arith
-inside_most (b ∷ v) = let h = inside_most v in let s = escaped_short b in let l = length-append (escaped b) (flat_map escaped v) in omega arith
+inside_most (b ∷ v) = let h = inside_most v in let s = spells_short b in let l = length-append (escaped b) (flat_map escaped v) in omega arith
 
 inside_least : (v : Bytes) → length v ≤ length (flat_map escaped v)
 inside_least [] = omega arith
@@ -74,25 +66,10 @@ module _ {X : Type 0} where
 
 -- rows between brackets
 module _ {X : Type 0} (g : X → Bytes) where
-  abbrev wide : X → ℕ
-  wide x = length (g x) + 1
-
-  joined_length : (xs : List X) → length (flat_map (comma g) xs) ≡ total wide xs
-  joined_length [] = refl
-  joined_length (x ∷ xs) = let h = joined_length xs in let l = length-append (comma g x) (flat_map (comma g) xs) in omega arith
-
-  listing_most : (xs : List X) → length (listing g xs) ≤ 2 + total wide xs
-  listing_most [] = omega arith
-  listing_most (x ∷ xs) =
-      let h = joined_length xs in
-      let l = length-append (g x) (flat_map (comma g) xs ++ (93 ∷ [])) in
-      let k = length-append (flat_map (comma g) xs) (93 ∷ []) in
-      omega arith
-
-  listing_least : (xs : List X) → 1 + total wide xs ≤ length (listing g xs)
+  listing_least : (xs : List X) → 1 + total (wide g) xs ≤ length (listing g xs)
   listing_least [] = omega arith
   listing_least (x ∷ xs) =
-      let h = joined_length xs in
+      let h = joined_length g xs in
       let l = length-append (g x) (flat_map (comma g) xs ++ (93 ∷ [])) in
       let k = length-append (flat_map (comma g) xs) (93 ∷ []) in
       omega arith
@@ -357,7 +334,7 @@ module _ {path : Bytes} {m : Meaning} {rows : List Row} where
   rows_short g l r k h =
       let a = total_rising path_of (wide (canon an_input)) rows (hashed_rows g m) (rising_too rows r) (gathered_there (hashed_rows g m) rows k) in
       let b = hashed_total g m.1.0 h in
-      let c = listing_most (canon an_input) rows in
+      let c = listing_length (canon an_input) rows in
       let d = listing_least (canon an_input) m.1.0 in
       let i : length m.1.0 ≤ 64 = l.inputs in
       omega arith
@@ -378,10 +355,10 @@ module _ {path : Bytes} {m : Meaning} {rows : List Row} where
       let b = fields m in
       let c = fields (with_inputs (masked m) rows) in
       let o = masked_outputs m.0 in
-      let o₁ = listing_most (canon an_output) (map {B = Value an_output} mask_output m.0) in
+      let o₁ = listing_length (canon an_output) (map {B = Value an_output} mask_output m.0) in
       let o₂ = listing_least (canon an_output) m.0 in
       let v = masked_variables m.0 m.1.1.1.1.1.1 in
-      let v₁ = listing_most (canon a_variable) (map {B = Value a_variable} (mask_variable m.0) m.1.1.1.1.1.1) in
+      let v₁ = listing_length (canon a_variable) (map {B = Value a_variable} (mask_variable m.0) m.1.1.1.1.1.1) in
       let v₂ = listing_least (canon a_variable) m.1.1.1.1.1.1 in
       let t : length (canonical m) ≤ 524288 = l.text in
       omega arith

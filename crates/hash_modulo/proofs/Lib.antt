@@ -2,6 +2,7 @@ pub mod Choosing
 pub mod Deciding
 pub mod Digests
 pub mod Founding
+pub mod Greatest
 pub mod Hashes
 pub mod Lengths
 pub mod Paths

@@ -35,7 +35,7 @@ abbrev pub with_inputs : Meaning → List Row → Meaning
 with_inputs m rows = (m.0, (rows, m.1.1))
 
 -- s is the string whose digest is the hash of a file that means m, where g has the hashes of its inputs:
--- its rows rise by hash, and of rows with equal hash the last one stands, which has the greatest path
+-- its rows rise by hash, and of rows with equal hash the last one stands, which has the greatest path (`GreatestStands` of Laws.antt)
 pub data HashString (g : Bytes → Bytes) (m : Meaning) : Bytes → Type 0 where
   of_fixed : {s : Bytes} (f : Fixed m) → s ≡ fixed_string f.only → HashString g m s
   of_text : {s : Bytes} → (Fixed m → ⊥) → (rows : List Row) → keyed.Rising path_of rows → keyed.Gathered path_of (hashed_rows g m) rows

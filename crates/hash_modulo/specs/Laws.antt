@@ -1,10 +1,13 @@
 -- What holds of the definition.
 -- Source: this project's own rule (docs/FORMATS.md, "Hashes modulo inputs").
-use Rattle.std.specs.Prelude.{◌≡◌, ℕ, ◌<◌, ◌≤◌, ◌⊎◌, List, length, Some}
+use Rattle.std.specs.Prelude.{◌≡◌, ℕ, zero, ◌<◌, ◌≤◌, ◌⊎◌, List, length, Some}
 use Rattle.std.specs.List.{AllByRecursion}
 use Rattle.canonical.specs.Kinds.{Value}
 use Rattle.canonical.specs.Meanings.{an_output, Meaning}
-use Rattle.hash_modulo.specs.Hashes.{Digest, Hashed}
+use Rattle.canonical.specs.Order.{Under, Member, Rising}
+use Rattle.hash_rows.specs.Keyed as keyed
+use Rattle.sink.specs.Numerals.{hex}
+use Rattle.hash_modulo.specs.Hashes.{Digest, path_of, hashed_rows, Hashed}
 use Rattle.hash_modulo.specs.Paths.{OwnPath, OutputPath}
 use Rattle.file_meaning.specs.Reads.{Reads}
 use Rattle.hash_modulo.specs.Strings.{FileStrings, Digested, RightPath, Limits}
@@ -16,6 +19,24 @@ Iff P Q = (P → Q) × (Q → P)
 -- a file has one hash at most
 abbrev pub OneHash : Type 0
 OneHash = (set : Files) (d : Digest) (p g h : Bytes) → Hashed set d p g → Hashed set d p h → g ≡ h
+
+-- x is the row of the input r, by its hash, and of the inputs with that hash r has the greatest path
+pub record Greatest (g : Bytes → Bytes) (m : Meaning) (x r : Row) : Type 0 where
+  pub named : Names m r
+  pub is : x ≡ (hex (g r.0), r.1)
+  pub greatest : (s : Row) → Names m s → hex (g s.0) ≡ hex (g r.0) → (s ≡ r) ⊎ Under s.0 r.0
+
+-- a hash stands in the rows exactly where some input has it, and each row is that of the greatest path with its hash
+pub record GreatestOfEach (g : Bytes → Bytes) (m : Meaning) (rows : List Row) : Type 0 where
+  pub stands : (h : Bytes) → Iff ((x : Row) × Member x rows × (x.0 ≡ h)) ((r : Row) × Names m r × (hex (g r.0) ≡ h))
+  pub row : (x : Row) → Member x rows → (r : Row) × Greatest g m x r
+
+-- The rows of a hash text and of a masked text (`HashString`, `MaskedString`): the last of each hash is the one with the greatest path, as the
+-- input rows of every file rise by path.
+pub record GreatestStands : Type 0 where
+  pub rise : (set : Files) (p : Bytes) (m : Meaning) → Means set p m → Rising path_of m.1.0
+  pub rows : (g : Bytes → Bytes) (m : Meaning) → Rising path_of m.1.0 → (rows : List Row) → keyed.Rising path_of rows
+      → Iff (keyed.Gathered path_of (hashed_rows g m) rows) (GreatestOfEach g m rows)
 
 -- to be hashable is to have a hash, whatever the digest
 abbrev pub HashableHasHash : Type 0
@@ -99,6 +120,14 @@ pub record DigestedStand : Type 0 where
 -- a right path is one
 abbrev pub OneRightPath : Type 0
 OneRightPath = (set : Files) (d : Digest) (p : Bytes) (j : ℕ) (q r : Bytes) → RightPath set d p j q → RightPath set d p j r → q ≡ r
+
+-- a file that reads has its own right path; one that has a hash has one for each of its outputs, and no file has more
+pub record SomeRightPath : Type 0 where
+  pub own : (set : Files) (d : Digest) (p : Bytes) (m : Meaning) → Means set p m → (q : Bytes) × RightPath set d p zero q
+  pub some : (set : Files) (d : Digest) (p : Bytes) (m : Meaning) → Means set p m → Hashable set p
+      → (j : ℕ) → j ≤ length m.0 → (q : Bytes) × RightPath set d p j q
+  pub none : (set : Files) (d : Digest) (p : Bytes) (m : Meaning) → Means set p m
+      → (j : ℕ) → length m.0 < j → (q : Bytes) → RightPath set d p j q → ⊥
 
 -- two sets with files at the same paths, which read to the same meanings
 pub record SameMeanings (one two : Files) : Type 0 where

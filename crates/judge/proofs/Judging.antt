@@ -1,5 +1,5 @@
 -- Questions 21 to 24 by digits, and by the definition's right paths.
-use Rattle.std.proofs.Common.{◌≡◌, ℕ, zero, suc, ◌+◌, ◌<◌, List, [], ◌∷◌, length, get_or, None, sym, refl, ap, ◌∙◌, subst, inl, inr, arith}
+use Rattle.std.proofs.Common.{◌≡◌, ℕ, ◌+◌, List, [], ◌∷◌, get_or, None, sym, refl, ap, ◌∙◌, subst}
 use Rattle.std.proofs.ByRecursion.{All-weaker}
 use Rattle.aterm.specs.Files.{output, variable, derivation, whole}
 use Rattle.aterm.specs.Grammar.{Tree, signs, meaning}
@@ -7,6 +7,7 @@ use Rattle.canonical.specs.Kinds.{Value, Means}
 use Rattle.canonical.specs.Meanings.{an_output, a_derivation, Meaning}
 use Rattle.canonical.specs.Order.{Under, Member, Rising, Different}
 use Rattle.canonical.proofs.Home.{whole_once}
+use Rattle.canonical.proofs.Members.{member_at, place_of}
 use Rattle.canonical.proofs.Orders.{under_not_self}
 use Rattle.derivation.specs.Asked.{FirstNo, First}
 use Rattle.derivation.specs.Questions.{output_name, output_rows, place_7}
@@ -36,16 +37,6 @@ rising_different {X} key (x ∷ xs) r = (
   rising_different key xs r.1,
 )
 
-index_of : {X : Type 0} (d x : X) (xs : List X) → Member x xs → (k : ℕ) × (k < length xs) × (get_or xs k d ≡ x)
-index_of d x [] i = absurd i
-index_of d x (y ∷ xs) (inl e) = (0, omega arith, sym e)
-index_of d x (y ∷ xs) (inr i) = let z = index_of d x xs i in (suc z.0, omega (arith, z.1), z.2)
-
-at_index : {X : Type 0} (d : X) (xs : List X) (k : ℕ) → k < length xs → Member (get_or xs k d) xs
-at_index d [] k h = absurd (omega arith)
-at_index d (x ∷ xs) zero h = inl refl
-at_index d (x ∷ xs) (suc k) h = inr (at_index d xs k (omega arith))
-
 -- ---- one tree
 
 pub at_tree : (d : Digest) (p text : Bytes) (g : Bytes → Bytes) (m : Meaning) (v : Verdict) (x y : Tree derivation) → signs text ≡ whole x → signs text ≡ whole y
@@ -72,14 +63,14 @@ module _ (d : Digest) (p : Bytes) (g : Bytes → Bytes) (m : Meaning) (own : Lis
       path_there w =
           let o = get_or m.0 w.index no_output in
           let same : o ≡ output_of t =
-          one_keyed (λ (v : Value an_output). v.0) m.0 (rising_different (λ (v : Value an_output). v.0) m.0 means.0.1.1.rises) o (output_of t) (at_index no_output m.0 w.index w.within) (output_there x m means t i) w.right.0 in
+          one_keyed (λ (v : Value an_output). v.0) m.0 (rising_different (λ (v : Value an_output). v.0) m.0 means.0.1.1.rises) o (output_of t) (member_at m.0 w.index no_output w.within) (output_there x m means t i) w.right.0 in
           subst (λ (z : Bytes). OutputPath d p g m (output_of t) z)
           (ap (λ (n : Bytes). full_store_path (get_or ds w.index no_digits).bytes (output_name p n)) w.right.0 ∙ sym w.right.1)
           (subst (λ (v : Value an_output). OutputPath d p g m v (full_store_path (get_or ds w.index no_digits).bytes (output_name p o.0))) same (right.output_paths w.index w.within))
 
       path_back : OutputPath d p g m (output_of t) q → RightFor p m.0 ds (meaning t.0) q
       path_back a =
-          let z = index_of no_output (output_of t) m.0 (output_there x m means t i) in
+          let z = place_of m.0 no_output (output_of t) (output_there x m means t i) in
           let name : (get_or m.0 z.0 no_output).0 ≡ meaning t.0 = ap (λ (v : Value an_output). v.0) z.2 in
           let b = subst (λ (v : Value an_output). OutputPath d p g m v (full_store_path (get_or ds z.0 no_digits).bytes (output_name p v.0))) z.2 (right.output_paths z.0 z.1) in
           record { index = z.0; within = z.1; right = (name, output_paths.one d p g g m (output_of t) q _ (λ r k. refl) a b) }

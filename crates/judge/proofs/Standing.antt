@@ -1,5 +1,5 @@
 -- A row of a list and the spot at which it stands, for a search of what was read.
-use Rattle.std.proofs.Common.{◌≡◌, ℕ, List, [], take, sym, subst}
+use Rattle.std.proofs.Common.{◌≡◌, ℕ, List, [], ◌∷◌, take, sym, refl, subst, inl}
 use Rattle.aterm.specs.Files.{output, in_output}
 use Rattle.aterm.specs.Grammar.{Shape, Tree, meaning}
 use Rattle.aterm.specs.declared.file.Output.{Output}
@@ -10,7 +10,7 @@ use Rattle.canonical.proofs.Spans.{span_means}
 use Rattle.derivation.specs.Asked.{rows_at}
 use Rattle.derivation.specs.declared.field.Field.{Field}
 use Rattle.derivation.specs.declared.spot.Spot.{Spot}
-use Rattle.verdict.proofs.Rows.{in_middle}
+use Rattle.hash_modulo.proofs.Paths.{member_right}
 use Rattle.derivation.proofs.Scan.{Split, spot, rows_after, all_rows}
 
 -- what stands for a row that is not there
@@ -21,7 +21,7 @@ module _ {V : Type 0} (s : Shape) (H : ℕ → V → Tree s → Type 0) (field :
   pub row_stands : Member (spot s H field from vs xs i v r, (take i xs, r.x)) (rows_at s field from [] xs)
   row_stands =
       subst (Member {X = Spot × (List (Tree s) × Tree s)} (spot s H field from vs xs i v r, (take i xs, r.x))) (sym (all_rows s H field from vs xs i v r))
-      (in_middle (spot s H field from vs xs i v r, (take i xs, r.x)) (rows_at s field from [] (take i xs)) (rows_after s H field from vs xs i v r))
+      (member_right (spot s H field from vs xs i v r, (take i xs, r.x)) (rows_at s field from [] (take i xs)) ((spot s H field from vs xs i v r, (take i xs, r.x)) ∷ rows_after s H field from vs xs i v r) (inl refl))
 
 -- what an output row says
 module _ (text : List ℕ) (from : ℕ) (vs : List (Placed Output)) (xs : List (Tree output)) (i : ℕ) (v : Placed Output) (r : Split output (in_output text) from vs xs i v) where

@@ -1,5 +1,5 @@
 -- Rows that hold trees, gone through one by one.
-use Rattle.std.proofs.Common.{ℕ, zero, suc, ◌+◌, ◌<◌, Bool, true, false, List, [], ◌∷◌, length, get_or, MatchBool, Decides, refl, inl, inr, arith}
+use Rattle.std.proofs.Common.{ℕ, zero, suc, ◌+◌, ◌<◌, Bool, true, false, List, [], ◌∷◌, length, get_or, MatchBool, Decides, refl, arith}
 use Rattle.std.specs.List.{AllByRecursion, AllWithin, HoldsAt}
 use Rattle.std.proofs.ByRecursion.{all_from_every}
 use Rattle.std.proofs.lemmas.Bool.{false≢true}
@@ -7,7 +7,7 @@ use Rattle.aterm.specs.Grammar.{Shape, Tree}
 use Rattle.aterm.specs.Reads.{Each, past}
 use Rattle.aterm.specs.declared.rows.Placed.{Placed}
 use Rattle.canonical.specs.Order.{Member}
-use Rattle.canonical.proofs.Members.{member_all}
+use Rattle.canonical.proofs.Members.{member_all, member_at}
 use Rattle.derivation.proofs.Scan.{each_length}
 
 -- the row at a place holds the tree there
@@ -17,11 +17,6 @@ held_at s H from [] xs i v x h a = absurd (omega arith)
 held_at s H from (u ∷ vs) [] i v x h a = absurd a
 held_at s H from (u ∷ vs) (y ∷ xs) zero v x h a = (from + 1, a.0.1)
 held_at s H from (u ∷ vs) (y ∷ xs) (suc i) v x h a = held_at s H (past s from y) vs xs i v x (omega arith) a.1
-
-member_at : {X : Type 0} (xs : List X) (i : ℕ) (d : X) → i < length xs → Member (get_or xs i d) xs
-member_at [] i d h = absurd (omega arith)
-member_at (x ∷ xs) zero d h = inl refl
-member_at (x ∷ xs) (suc i) d h = inr (member_at xs i d (omega arith))
 
 pub some_row : {V : Type 0} (vs : List V) (k : ℕ) → k < length vs → V
 some_row [] k h = absurd (omega arith)

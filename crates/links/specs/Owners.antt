@@ -1,6 +1,6 @@
 -- Whether a file owns the outputs that an input row of another file wants of it, by the bytes of their names.
 -- Source: this project's own rule (docs/CALLS.md, "Verdict").
-use Rattle.std.specs.Prelude.{◌≡◌, ℕ, ◌≤◌, ◌⊎◌, Bool, List, map, Some, None, Decides}
+use Rattle.std.specs.Prelude.{◌≡◌, ℕ, ◌≤◌, Bool, List, map, Some, Decides}
 use Rattle.std.specs.List.{AllByRecursion}
 use Rattle.aterm.specs.Files.{output, in_output, span}
 use Rattle.aterm.specs.Grammar.{Tree, string, raw, meaning}
@@ -36,7 +36,7 @@ pub record Stands (img : Bytes) (n number : ℕ) (path text : Bytes) : Type 0 wh
   pub named : file_path img number ≡ path
   pub there : set_of img n path ≡ Some text
 
--- r says whether the file of this number among the first n, if it reads, owns the outputs of these names; a file that is not there is asked for as 0, and owns what is wanted
+-- r says whether the file of this number among the first n, if it reads, owns the outputs of these names
 abbrev pub OwnedBy : Bytes → ℕ → ℕ → Bytes → List (Placed Span) → Bool → Type 0
 OwnedBy img n number text vs r = (ns : List (Tree string)) → NamesAre text vs ns → AllByRecursion AsItStands ns
-    → (p : Bytes) → Found img n p (Some number) ⊎ ((number ≡ 0) × Found img n p None) → Decides r (Owned (set_of img n) (p, map meaning ns))
+    → (p : Bytes) → Found img n p (Some number) → Decides r (Owned (set_of img n) (p, map meaning ns))

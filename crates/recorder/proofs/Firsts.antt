@@ -102,9 +102,9 @@ pub copied_kept : {E : Type 0} (c : ℕ) (t s out : List ℕ) (r : Result ℕ E)
 copied_kept c t s out r after long told = subst (λ (v : List ℕ). Copied c v out r after) (sym (take_at t s 4096 long)) told
 
 copied_first : {E : Type 0} (bs out : List ℕ) (r : Result ℕ E) (after : List ℕ) → Copied (min (length bs) 4294967295) (take 4096 bs ++ drop (length bs) (zeros 4096)) out r after → First bs out r after
-copied_first bs out (Ok n) after (count, is) =
+copied_first bs out (Ok n) after (fits, count, is) =
     let few : n ≡ min (length bs) 4096 = omega arith in
-    (few, is ∙ ap (λ (v : List ℕ). v ++ drop n out) (front bs n few))
+    (omega arith, few, is ∙ ap (λ (v : List ℕ). v ++ drop n out) (front bs n few))
 copied_first bs out (Err e) after (short, is) = (omega arith, is)
 
 pub kept_taken : {E : Type 0} (f : Step) (state out : List ℕ) (r : Result ℕ E) (after : List ℕ) → Kept state out r after → TakenKept f state out r after

@@ -1,6 +1,6 @@
 -- The recorder's meaning: its state is a count, a table of the first 4,096 bytes, and then the state of the sink below.
 -- Source: this project's own definition of a recorder (docs/FORMATS.md, "Sinks").
-use Rattle.std.specs.Prelude.{◌≡◌, ℕ, ◌+◌, ◌<◌, min, List, [], ◌∷◌, ◌++◌, length, take, drop, replicate, Ok, Err, Result, slice_index, slice_set}
+use Rattle.std.specs.Prelude.{◌≡◌, ℕ, ◌+◌, ◌<◌, ◌≤◌, min, List, [], ◌∷◌, ◌++◌, length, take, drop, replicate, Ok, Err, Result, slice_index, slice_set}
 use Rattle.sink.specs.Digest.{digest}
 use Rattle.sink.specs.Write.{Step, Held, steps}
 
@@ -46,7 +46,7 @@ SameDigest f start answer = (bs : List ℕ) → digest (recording 4096 f) (recor
 
 -- the first bytes of a table, as many as were counted, are copied to the front of a buffer, whose later bytes stay; or it is short and stays
 abbrev pub Copied : {E : Type 0} → ℕ → List ℕ → List ℕ → Result ℕ E → List ℕ → Type 0
-Copied c t out (Ok n) after = (n ≡ min c 4096) × (after ≡ take n t ++ drop n out)
+Copied c t out (Ok n) after = (min c 4096 ≤ length out) × (n ≡ min c 4096) × (after ≡ take n t ++ drop n out)
 Copied c t out (Err _) after = (length out < min c 4096) × (after ≡ out)
 
 -- the same by a recorder's state: the count stands first, the table next
@@ -55,7 +55,7 @@ Kept state out r after = Copied (slice_index state 0) (take 4096 (drop 1 state))
 
 -- the same by what was taken: the first 4,096 of the bytes bs
 abbrev pub First : {E : Type 0} → List ℕ → List ℕ → Result ℕ E → List ℕ → Type 0
-First bs out (Ok n) after = (n ≡ min (length bs) 4096) × (after ≡ take 4096 bs ++ drop n out)
+First bs out (Ok n) after = (min (length bs) 4096 ≤ length out) × (n ≡ min (length bs) 4096) × (after ≡ take 4096 bs ++ drop n out)
 First bs out (Err _) after = (length out < min (length bs) 4096) × (after ≡ out)
 
 -- whatever was taken since begin, its first 4,096 bytes are answered

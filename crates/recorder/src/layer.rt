@@ -1,7 +1,7 @@
 // A layer over any digest sink.
-ghost use Rattle.std.specs.Prelude.{◌≡◌};
+ghost use Rattle.std.specs.Prelude.{◌≡◌, drop};
 ghost use Rattle.recorder.specs.Holding.{holding};
-ghost use Rattle.recorder.specs.Record.{recording, recorded_start, recorded_answer, zeros, SameDigest, Kept, TakenKept};
+ghost use Rattle.recorder.specs.Record.{recorded, recording, recorded_start, recorded_answer, zeros, SameDigest, Kept, TakenKept};
 ghost use Rattle.sink.specs.Digest.{Begins};
 
 use crate::table::Table;
@@ -35,6 +35,8 @@ impl<S: DigestSink> DigestSink for Recorder<S> {
 
     ghost answered = { recorded_answer S.DigestSink.answered };
 
+    ghost wide = { λ s. S.DigestSink.wide (drop 4097 s) };
+
     // Besides what every digest sink promises: the digest of a string is that of the sink below.
     fn begin(&mut self)
         ensures begins { Begins (recorded_start S.DigestSink.start) S.DigestSink.capacity (holding S.Sink.held self.old).meaning (holding S.Sink.held self.new).meaning }
@@ -51,7 +53,7 @@ impl<S: DigestSink> DigestSink for Recorder<S> {
 
 impl<S: DigestSink> Recorder<S> {
     pub fn new(below: S) -> Recorder<S>
-        ensures { (result.table.count ≡ 0) × (result.table.bytes ≡ zeros 4096) × (result.below ≡ below) }
+        ensures { holding S.Sink.held result ≡ recorded 0 (zeros 4096) (S.Sink.held below) }
     {
         Recorder {
             table: Table::default(),

@@ -1,6 +1,6 @@
 // A digest sink for tests.
 ghost use Rattle.std.specs.Prelude.{◌≡◌, []};
-ghost use Rattle.samples.specs.Zeros.{zero_answer, fresh};
+ghost use Rattle.samples.specs.Zeros.{zero_answer, zero_wide, fresh};
 ghost use Rattle.sink.specs.Counter.{forgetting, numbered, numbered_wraps};
 
 use sink::{DigestSink, Full, Sink};
@@ -36,6 +36,8 @@ impl DigestSink for Zeros {
     ghost capacity = { 1048576 };
 
     ghost answered = { zero_answer };
+
+    ghost wide = { zero_wide };
 
     fn begin(&mut self) {
         self.remaining = 1048576;

@@ -2,7 +2,7 @@
 use Rattle.std.proofs.Common.{◌≡◌, ℕ, suc, ◌+◌, ◌^◌, ◌<◌, ◌≤◌, true, List, [], ◌∷◌, ◌++◌, length, get_or, take, drop, is_err, Ok, Err, Result, sym, refl, ap, ◌∙◌, subst, append_assoc, arith, length-append}
 use Rattle.std.proofs.lemmas.List.{append-nil, drop-drop, at_drop_more, at_drop_all, take-append-le}
 use Rattle.std.specs.List.{flat_map}
-use Rattle.sink.specs.Write.{Step, Meaning, Held, steps, written, filled, Taken, Stopped, Writes, Leads}
+use Rattle.sink.specs.Write.{Step, Meaning, Held, steps, written, filled, Taken, Stopped, Writes, Leads, Joins}
 
 pub steps_append : (f : Step) (s a b : List ℕ) → steps f (steps f s a) b ≡ steps f s (a ++ b)
 steps_append f s [] b = refl
@@ -49,6 +49,13 @@ filled_meaning f h bs = refl
 pub taken_then : (f : Step) (h k l : Held) (a b : List ℕ) → Taken f h a k → Taken f k b l → Taken f h (a ++ b) l
 taken_then f h k l a b (room, e) (left, d) =
     (omega (arith, length-append a b), d ∙ ap (λ (x : Held). filled f x b) e ∙ filled_append f h a b)
+
+taken_after : (f : Step) (h k l : Held) (a b : List ℕ) → Taken f h a k → Taken f h (a ++ b) l → Taken f k b l
+taken_after f h k l a b (room, e) (left, d) =
+    (omega (arith, length-append a b), d ∙ sym (filled_append f h a b) ∙ ap (λ (x : Held). filled f x b) (sym e))
+
+pub written_joins : Joins
+written_joins f h k l a b t = (taken_then f h k l a b t, taken_after f h k l a b t)
 
 pub taken_none : (f : Step) (h : Held) → h.meaning.total < 2 ^ 64 → Taken f h [] h
 taken_none f h small = (omega arith, sym (filled_none f h small))

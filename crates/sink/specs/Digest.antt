@@ -12,6 +12,10 @@ pub record Begins (start : List ℕ) (capacity : ℕ) (m n : Meaning) : Type 0 w
   pub is : n ≡ begun start capacity m
   pub large : 1048576 ≤ capacity
 
+-- every answer has 32 numbers, as a digest of 32 bytes has
+abbrev pub AllWide : (List ℕ → List ℕ) → Type 0
+AllWide answer = (s : List ℕ) → length (answer s) ≡ 32
+
 -- D: the answer after stepping from the start through the bytes
 abbrev pub digest : Step → List ℕ → (List ℕ → List ℕ) → List ℕ → List ℕ
 digest f start answer bs = answer (steps f start bs)

@@ -2,6 +2,10 @@
 -- Source: this project's own definition of a sink (docs/FORMATS.md, "Sinks").
 use Rattle.std.specs.Prelude.{◌≡◌, ℕ, ◌+◌, ◌-◌, ◌%◌, ◌^◌, ◌<◌, ◌≤◌, List, [], ◌∷◌, ◌++◌, length, take, drop, Result, MatchResult}
 
+-- the number of the refusal of a string that does not fit
+abbrev pub full_number : ℕ
+full_number = 39
+
 -- from a state and a byte to the next state; a state is a list of numbers
 abbrev pub Step : Type 0
 Step = List ℕ → ℕ → List ℕ
@@ -57,6 +61,6 @@ pub record Writes {T E : Type 0} (f : Step) (h : Held) (bs : List ℕ) (r : Resu
 pub record Leads (T E : Type 0) (f : Step) (h : Held) (a : List ℕ) (k : Held) (b : List ℕ) : Type 0 where
   pub on : (r : Result T E) (l : Held) → Writes f k b r l → Writes f h a r l
 
--- writing a and then b is writing the two joined
+-- where a fits, writing a and then b is writing the two joined: they fit together exactly where b fits after a, and leave the same
 abbrev pub Joins : Type 0
-Joins = (f : Step) (m : Meaning) (a b : List ℕ) → written f (written f m a) b ≡ written f m (a ++ b)
+Joins = (f : Step) (h k l : Held) (a b : List ℕ) → Taken f h a k → (Taken f k b l → Taken f h (a ++ b) l) × (Taken f h (a ++ b) l → Taken f k b l)

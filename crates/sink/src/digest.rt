@@ -15,7 +15,7 @@ pub fn digest_of<S: DigestSink>(sink: &mut S, bytes: &[u8]) -> Result<[u8; 32], 
     Ok(sink.answer())
 }
 
-// Writing one string and then another is writing the two joined.
+// Where the first fits, writing one string and then another is writing the two joined.
 pub fn writing_joins() -> bool
     ensures { Joins }
 {

@@ -2,7 +2,7 @@
 #![tactic(auto)]
 
 ghost use Rattle.std.specs.Prelude.{◌≡◌, ℕ, ◌^◌, ◌<◌, List, OnErr};
-ghost use Rattle.sink.specs.Digest.{Begins};
+ghost use Rattle.sink.specs.Digest.{Begins, AllWide};
 ghost use Rattle.sink.specs.Write.{Held, Writes};
 
 mod buffer;
@@ -33,13 +33,15 @@ pub trait Sink {
         ensures same { OnErr result (self.new ≡ self.old) };
 }
 
-// A sink that digests: from its start, through the bytes written since, to an answer of 32 bytes.
+// A sink that digests: from its start, through the bytes written since, to an answer of 32 bytes, whatever the state.
 pub trait DigestSink: Sink {
     ghost start: { List ℕ };
 
     ghost capacity: { ℕ };
 
     ghost answered: { List ℕ → List ℕ };
+
+    ghost wide: { AllWide answered };
 
     fn begin(&mut self)
         ensures begins { Begins start capacity (Self.Sink.held self.old).meaning (Self.Sink.held self.new).meaning };

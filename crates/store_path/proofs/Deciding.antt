@@ -19,6 +19,11 @@ both (inl p) (inl q) = inl (p, q)
 both (inl p) (inr q) = inr (λ x. q x.1)
 both (inr p) q = inr (λ x. p x.0)
 
+pub either : {P Q : Type 0} → Known P → Known Q → Known (P ⊎ Q)
+either (inl p) q = inl (inl p)
+either (inr n) (inl q) = inl (inr q)
+either (inr n) (inr k) = inr (λ s. elim s [ inl p ↦ n p | inr q ↦ k q ])
+
 pub like : {P Q : Type 0} → (P → Q) → (Q → P) → Known P → Known Q
 like f g (inl p) = inl (f p)
 like f g (inr n) = inr (λ q. n (g q))

@@ -9,6 +9,7 @@ use Rattle.canonical.proofs.Members.{member_all}
 use Rattle.derivation.specs.Asked.{FirstNo, First, rows_at}
 use Rattle.derivation.specs.declared.field.Field.{Field}
 use Rattle.derivation.specs.declared.spot.Spot.{Spot}
+use Rattle.hash_modulo.proofs.Paths.{member_right}
 use Rattle.store_path.proofs.Deciding.{same_text}
 
 -- ---- the first no
@@ -42,12 +43,8 @@ same_no P Q there back rows w f = record {
 }
 
 -- its row stands among them
-pub in_middle : {X : Type 0} (x : X) (xs ys : List X) → Member x (xs ++ x ∷ ys)
-in_middle x [] ys = inl refl
-in_middle x (y ∷ xs) ys = inr (in_middle x xs ys)
-
 pub no_stands : {E : Type 0} (Yes : E → Type 0) (rows : List (Spot × E)) (w : Spot) (f : FirstNo Yes rows w) → Member (w, f.row) rows
-no_stands {E} Yes rows w f = subst (Member {X = Spot × E} (w, f.row)) (sym f.whole) (in_middle (w, f.row) f.before f.after)
+no_stands {E} Yes rows w f = subst (Member {X = Spot × E} (w, f.row)) (sym f.whole) (member_right (w, f.row) f.before ((w, f.row) ∷ f.after) (inl refl))
 
 -- ---- rows of a list
 

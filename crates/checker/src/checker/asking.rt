@@ -1,5 +1,5 @@
 // The first questions of a call: is a set opened, and is there a file of this number?
-ghost use Rattle.checker.specs.Asked.{SetOf, StateOf, FileOf};
+ghost use Rattle.checker.specs.Asked.{SetAsked, StateAsked, FileAsked};
 ghost use Rattle.checker.specs.Seen.{view_of, view_in};
 
 use super::{Checker, OpenSet};
@@ -10,7 +10,7 @@ use image::File;
 impl<'a> Checker<'a> {
     // The set, if one is opened.
     pub(super) fn set(&self) -> Result<&OpenSet<'a>, CallRefusal>
-        ensures { SetOf (view_of self.now) result }
+        ensures { SetAsked (view_of self.now) result }
     {
         self.opened.as_ref().ok_or(CallRefusal::NotOpened)
     }
@@ -19,9 +19,9 @@ impl<'a> Checker<'a> {
 impl<'a> OpenSet<'a> {
     // The state of the file of this number, if there is one.
     pub(super) fn state(&self, file: usize) -> Result<State, CallRefusal>
-        ensures { StateOf (view_in self.now) file result }
+        ensures { StateAsked (view_in self.now) file result }
     {
-        if !(1..=self.image.count()).contains(&file) {
+        if !(1..=self.files.image.count()).contains(&file) {
             return Err(CallRefusal::NoFile);
         }
         Ok(self.states.get(file))
@@ -29,8 +29,8 @@ impl<'a> OpenSet<'a> {
 
     // That file itself, if there is one.
     pub(super) fn file(&self, file: usize) -> Result<File<'a>, CallRefusal>
-        ensures { FileOf (view_in self.now) file result }
+        ensures { FileAsked (view_in self.now) file result }
     {
-        self.image.file(file).ok_or(CallRefusal::NoFile)
+        self.files.image.file(file).ok_or(CallRefusal::NoFile)
     }
 }

@@ -1,8 +1,8 @@
 // Which file is handed out next.
-ghost use Rattle.std.specs.Prelude.{◌≡◌, ◌+◌, Decides, Some, IfSome};
+ghost use Rattle.std.specs.Prelude.{◌≡◌, ◌+◌, Decides};
 ghost use Rattle.image.specs.Files.{files_of};
 ghost use Rattle.checker.specs.Calls.{Choice};
-ghost use Rattle.checker.specs.Seen.{view_in, KeptIn, SaysReady};
+ghost use Rattle.checker.specs.Seen.{view_in, SaysReady};
 ghost use Rattle.checker.specs.Views.{Exists, PendingAt, ReadyFile, ReadyAt, Lowest};
 
 use super::OpenSet;
@@ -10,14 +10,12 @@ use crate::standing::are_ready;
 use crate::state::State;
 use std::ops::Range;
 
-// What is said of ready files holds of a set that is kept right (`KeptIn`): open, which is to come, makes it so, and every call leaves it so (`stays`).
-// It is a premise and no invariant of `OpenSet`, which would have to be a fact with one proof at most.
 impl<'a> OpenSet<'a> {
     // The numbers of the files. Not `1..=count`: what the library proves of a search speaks of a range without its end.
     pub fn numbers(&self) -> Range<usize>
-        ensures { result ≡ record { start = 1; «end» = files_of self.now.image + 1 } }
+        ensures { result ≡ record { start = 1; «end» = files_of self.now.files.image + 1 } }
     {
-        1..self.image.count() + 1
+        1..self.files.image.count() + 1
     }
 
     fn is_pending(&self, file: usize) -> bool
@@ -28,9 +26,9 @@ impl<'a> OpenSet<'a> {
 
     // A file that does not read is ready.
     fn is_ready(&self, file: usize) -> bool
-        ensures { KeptIn (Some self.now) → Exists (view_in self.now) file → Decides result (ReadyFile (view_in self.now) file) }
+        ensures { Exists (view_in self.now) file → Decides result (ReadyFile (view_in self.now) file) }
     {
-        match self.links.get(file) {
+        match self.files.links.get(file) {
             Some(links) => are_ready(&links, &self.states),
             None => true,
         }
@@ -49,16 +47,14 @@ impl<'a> OpenSet<'a> {
     }
 
     fn first_ready(&self) -> Option<usize>
-        ensures lowest { KeptIn (Some self.now) → Lowest (ReadyAt (view_in self.now)) result }
-        ensures there { IfSome result (Exists (view_in self.now)) }
+        ensures { Lowest (ReadyAt (view_in self.now)) result }
     {
         self.numbers().find(|file| self.is_pending_and_ready(*file))
     }
 
     // The lowest pending file that is ready, or, if none is, the lowest pending one.
     pub fn choose(&self) -> Option<usize>
-        ensures choice { KeptIn (Some self.now) → Choice (view_in self.now) result }
-        ensures there { IfSome result (Exists (view_in self.now)) }
+        ensures { Choice (view_in self.now) result }
     {
         // No `or_else`: after it nothing is known of what its closure answered, so the proof did not close.
         match self.first_ready() {

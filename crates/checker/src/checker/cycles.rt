@@ -2,7 +2,7 @@
 ghost use Rattle.std.specs.Prelude.{◌≡◌, ◌+◌, ◌<◌, [], Some, None, slice_index_or};
 ghost use Rattle.image.specs.Files.{files_of};
 ghost use Rattle.checker.specs.Calls.{OnCycle, Circles};
-ghost use Rattle.checker.specs.Seen.{view_of, view_in, Kept, KeptIn};
+ghost use Rattle.checker.specs.Seen.{view_of, view_in};
 ghost use Rattle.checker.specs.Ways.{file_in, NamesFile, SaysNamed, NamedIn, Edge, Way, RowSays, RowRight, RowJoined, Through, AllSay, TurnsBack, flag_at};
 
 use super::{Checker, OpenSet};
@@ -85,9 +85,9 @@ impl Relation {
 impl<'a> OpenSet<'a> {
     // Which files the rows of one file name: none where it does not read.
     fn named_by(&self, file: usize) -> [bool; 256]
-        ensures { RowRight self.now.links file result }
+        ensures { RowRight self.now.files.links file result }
     {
-        match self.links.get(file) {
+        match self.files.links.get(file) {
             Some(links) => named(&links),
             None => unnamed(),
         }
@@ -95,13 +95,13 @@ impl<'a> OpenSet<'a> {
 
     // The same for every file.
     fn edges(&self) -> Relation
-        ensures { AllSay result.rows (Edge self.now.links) }
+        ensures { AllSay result.rows (Edge self.now.files.links) }
     {
         Relation {
             rows: array::from_fn(
                 |before|
                     requires { before < 256 }
-                    ensures { RowRight self.entry.now.links (before + 1) result }
+                    ensures { RowRight self.entry.now.files.links (before + 1) result }
                 { self.named_by(before + 1) },
             ),
         }
@@ -109,10 +109,10 @@ impl<'a> OpenSet<'a> {
 
     // Which files rest on which, by way of one file more at each turn.
     fn relation(&self) -> Relation
-        ensures { AllSay result.rows (Way self.now.links (files_of self.now.image)) }
+        ensures { AllSay result.rows (Way self.now.files.links (files_of self.now.files.image)) }
     {
         let mut relation = self.edges();
-        'turns: for middle in 0..self.image.count() {
+        'turns: for middle in 0..self.files.image.count() {
             relation = relation.through(middle);
         }
         relation
@@ -120,7 +120,7 @@ impl<'a> OpenSet<'a> {
 
     // A file that rests on itself, or 0.
     fn circle(&self) -> usize
-        ensures { KeptIn (Some self.now) → OnCycle (view_in self.now) result }
+        ensures { OnCycle (view_in self.now) result }
     {
         let relation = self.relation();
         self.numbers()
@@ -132,7 +132,7 @@ impl<'a> OpenSet<'a> {
 impl<'a> Checker<'a> {
     // A file that rests on itself, or 0 where there is none.
     pub fn circle(&self) -> Result<usize, CallRefusal>
-        ensures { Kept self.now → Circles (view_of self.now) result }
+        ensures { Circles (view_of self.now) result }
     {
         match &self.opened {
             Some(set) => Ok(set.circle()),

@@ -1,12 +1,10 @@
 // Right paths of a file: its own, and those of its outputs.
-ghost use Rattle.std.specs.Prelude.{◌≡◌, ◌+◌, ◌≤◌, length, Decides, OnErr};
+ghost use Rattle.std.specs.Prelude.{◌≡◌, ◌+◌, ◌≤◌, length, Decides, OnErr, IfErr};
 ghost use Rattle.canonical.specs.Files.{output_value};
 ghost use Rattle.canonical.specs.Kinds.{Lawful};
 ghost use Rattle.canonical.specs.Meanings.{a_derivation};
 ghost use Rattle.canonical.specs.Order.{Member};
 ghost use Rattle.derivation.specs.Questions.{output_name};
-ghost use Rattle.image.specs.Files.{bytes_of, files_of};
-ghost use Rattle.image.specs.Opening.{Opens};
 ghost use Rattle.store_path.specs.Names.{StorePath};
 ghost use Rattle.checker.specs.Soundness.{SoundView};
 ghost use Rattle.hash_modulo.specs.Paths.{file_name};
@@ -14,8 +12,8 @@ ghost use Rattle.hash_modulo.specs.Strings.{Limits};
 ghost use Rattle.right_paths.specs.Views.{file_by};
 ghost use Rattle.right_paths.specs.Worked.{full_store_path};
 ghost use Rattle.checker.specs.Calls.{Put, Paths};
-ghost use Rattle.checker.specs.Locating.{path_length, PathPut, OwnLocated, OutputLocated, FileLocated, LocatedIfRead, InputsKept};
-ghost use Rattle.checker.specs.Seen.{view_of, view_in, Kept};
+ghost use Rattle.checker.specs.Locating.{path_length, PathPut, OwnLocated, OutputLocated, FileLocated, LocatedIfRead, PathRefused};
+ghost use Rattle.checker.specs.Seen.{view_of, view_in};
 ghost use Rattle.checker.specs.Settling.{kind_of};
 
 use super::settling::hash_in;
@@ -64,7 +62,8 @@ fn write_own_path<S: DigestSink>(
 ) -> Result<usize, CallRefusal>
     requires limits { Limits of.path.now (file_by of) }
     requires lawful { Lawful a_derivation (file_by of) }
-    ensures { PathPut (path_length (file_name of.entry.path.now)) (OwnLocated (kind_of S.Sink.step S.DigestSink.start S.DigestSink.capacity S.DigestSink.answered) of.entry.path.now (file_by of.entry) (S.Sink.held sink.old).meaning) out.old (S.Sink.held sink.old).meaning result out.new (S.Sink.held sink.new).meaning }
+    ensures put { PathPut (path_length (file_name of.entry.path.now)) (OwnLocated (kind_of S.Sink.step S.DigestSink.start S.DigestSink.capacity S.DigestSink.answered S.DigestSink.wide) of.entry.path.now (file_by of.entry) (S.Sink.held sink.old).meaning) out.old (S.Sink.held sink.old).meaning result out.new (S.Sink.held sink.new).meaning }
+    ensures same { OnErr result ((out.new ≡ out.old) × (sink.new ≡ sink.old)) }
 {
     let name = Word {
         bytes: name_of(of.path),
@@ -87,7 +86,7 @@ impl<'a> OpenSet<'a> {
         requires limits { Limits of.path.now (file_by of) }
         requires lawful { Lawful a_derivation (file_by of) }
         requires there { Member (output_value of.text.now output) (file_by of).0 }
-        ensures { OutputLocated (kind_of S.Sink.step S.DigestSink.start S.DigestSink.capacity S.DigestSink.answered) (view_in self.now) of.entry.path.now (file_by of.entry) (output_value of.entry.text.now output) (S.Sink.held sink.old).meaning (full_store_path result.bytes (output_name of.entry.path.now (output_value of.entry.text.now output).0)) (S.Sink.held sink.new).meaning }
+        ensures { OutputLocated (kind_of S.Sink.step S.DigestSink.start S.DigestSink.capacity S.DigestSink.answered S.DigestSink.wide) (view_in self.now) of.entry.path.now (file_by of.entry) (output_value of.entry.text.now output) (S.Sink.held sink.old).meaning (full_store_path result.bytes (output_name of.entry.path.now (output_value of.entry.text.now output).0)) (S.Sink.held sink.new).meaning }
     {
         let SortedFile { path, text, file } = of;
         let output = FileOutput { path, text, output };
@@ -112,7 +111,8 @@ impl<'a> OpenSet<'a> {
         requires limits { Limits of.path.now (file_by of) }
         requires lawful { Lawful a_derivation (file_by of) }
         requires there { Member (output_value of.text.now output) (file_by of).0 }
-        ensures { PathPut (path_length (output_name of.entry.path.now (output_value of.entry.text.now output).0)) (OutputLocated (kind_of S.Sink.step S.DigestSink.start S.DigestSink.capacity S.DigestSink.answered) (view_in self.now) of.entry.path.now (file_by of.entry) (output_value of.entry.text.now output) (S.Sink.held sink.old).meaning) out.old (S.Sink.held sink.old).meaning result out.new (S.Sink.held sink.new).meaning }
+        ensures put { PathPut (path_length (output_name of.entry.path.now (output_value of.entry.text.now output).0)) (OutputLocated (kind_of S.Sink.step S.DigestSink.start S.DigestSink.capacity S.DigestSink.answered S.DigestSink.wide) (view_in self.now) of.entry.path.now (file_by of.entry) (output_value of.entry.text.now output) (S.Sink.held sink.old).meaning) out.old (S.Sink.held sink.old).meaning result out.new (S.Sink.held sink.new).meaning }
+        ensures same { OnErr result ((out.new ≡ out.old) × (sink.new ≡ sink.old)) }
     {
         let name = OutputName {
             path: of.path,
@@ -135,7 +135,8 @@ impl<'a> OpenSet<'a> {
     ) -> Result<usize, CallRefusal>
         requires limits { Limits of.path.now (file_by of) }
         requires lawful { Lawful a_derivation (file_by of) }
-        ensures { FileLocated (kind_of S.Sink.step S.DigestSink.start S.DigestSink.capacity S.DigestSink.answered) (view_in self.now) of.entry.path.now (file_by of.entry) j out.old (S.Sink.held sink.old).meaning result out.new (S.Sink.held sink.new).meaning }
+        ensures located { FileLocated (kind_of S.Sink.step S.DigestSink.start S.DigestSink.capacity S.DigestSink.answered S.DigestSink.wide) (view_in self.now) of.entry.path.now (file_by of.entry) j out.old (S.Sink.held sink.old).meaning result out.new (S.Sink.held sink.new).meaning }
+        ensures same { OnErr result ((out.new ≡ out.old) × (sink.new ≡ sink.old)) }
     {
         if j == 0 {
             return write_own_path(of, out, sink);
@@ -158,7 +159,8 @@ impl<'a> OpenSet<'a> {
         requires stored { StorePath file.path.now }
         requires near { length file.path.now ≤ 255 }
         requires short { length file.text.now ≤ 262144 }
-        ensures { LocatedIfRead (kind_of S.Sink.step S.DigestSink.start S.DigestSink.capacity S.DigestSink.answered) (view_in self.now) file.entry.path.now file.entry.text.now j out.old (S.Sink.held sink.old).meaning result out.new (S.Sink.held sink.new).meaning }
+        ensures located { LocatedIfRead (kind_of S.Sink.step S.DigestSink.start S.DigestSink.capacity S.DigestSink.answered S.DigestSink.wide) (view_in self.now) file.entry.path.now file.entry.text.now j out.old (S.Sink.held sink.old).meaning result out.new (S.Sink.held sink.new).meaning }
+        ensures same { OnErr result ((out.new ≡ out.old) × (sink.new ≡ sink.old)) }
     {
         let File { path, text } = file;
         // Not reached where a hash is kept: such a file reads.
@@ -177,8 +179,9 @@ impl<'a> OpenSet<'a> {
         out: &mut [u8],
         sink: &mut S,
     ) -> Result<usize, CallRefusal>
-        ensures located { Opens (bytes_of self.now.image) (files_of self.now.image) → SoundView (kind_of S.Sink.step S.DigestSink.start S.DigestSink.capacity S.DigestSink.answered) (view_in self.now) → InputsKept (view_in self.now) → Paths (kind_of S.Sink.step S.DigestSink.start S.DigestSink.capacity S.DigestSink.answered) (view_in self.now) number j out.old (S.Sink.held sink.old).meaning result out.new (S.Sink.held sink.new).meaning }
-        ensures same { OnErr result ((out.new ≡ out.old) × ((S.Sink.held sink.new).meaning ≡ (S.Sink.held sink.old).meaning)) }
+        ensures located { SoundView (kind_of S.Sink.step S.DigestSink.start S.DigestSink.capacity S.DigestSink.answered S.DigestSink.wide) (view_in self.now) → Paths (kind_of S.Sink.step S.DigestSink.start S.DigestSink.capacity S.DigestSink.answered S.DigestSink.wide) (view_in self.now) number j out.old (S.Sink.held sink.old).meaning result out.new (S.Sink.held sink.new).meaning }
+        ensures refused { IfErr result (PathRefused (view_in self.now) number j (length out.old)) }
+        ensures same { OnErr result ((out.new ≡ out.old) × (sink.new ≡ sink.old)) }
     {
         let state = self.state(number)?;
         if hash_in(state).is_none() {
@@ -190,8 +193,8 @@ impl<'a> OpenSet<'a> {
 }
 
 impl<'a> Checker<'a> {
-    // Right path `j` of a file, from the buffer's start, digested anew; a refusal leaves the buffer, and the sink's meaning.
-    // That the set is kept and its view sound, and that the inputs of a file with a hash have one, stand as premises: no invariant says them yet.
+    // Right path `j` of a file, from the buffer's start, digested anew; a refusal leaves the buffer and the sink.
+    // That the view is sound stands as a premise: it depends on the digest that the files were settled with.
     pub fn path<S: DigestSink>(
         &self,
         file: usize,
@@ -199,8 +202,9 @@ impl<'a> Checker<'a> {
         out: &mut [u8],
         sink: &mut S,
     ) -> Result<usize, CallRefusal>
-        ensures located { Kept self.now → SoundView (kind_of S.Sink.step S.DigestSink.start S.DigestSink.capacity S.DigestSink.answered) (view_of self.now) → InputsKept (view_of self.now) → Paths (kind_of S.Sink.step S.DigestSink.start S.DigestSink.capacity S.DigestSink.answered) (view_of self.now) file j out.old (S.Sink.held sink.old).meaning result out.new (S.Sink.held sink.new).meaning }
-        ensures same { OnErr result ((out.new ≡ out.old) × ((S.Sink.held sink.new).meaning ≡ (S.Sink.held sink.old).meaning)) }
+        ensures located { SoundView (kind_of S.Sink.step S.DigestSink.start S.DigestSink.capacity S.DigestSink.answered S.DigestSink.wide) (view_of self.now) → Paths (kind_of S.Sink.step S.DigestSink.start S.DigestSink.capacity S.DigestSink.answered S.DigestSink.wide) (view_of self.now) file j out.old (S.Sink.held sink.old).meaning result out.new (S.Sink.held sink.new).meaning }
+        ensures refused { IfErr result (PathRefused (view_of self.now) file j (length out.old)) }
+        ensures same { OnErr result ((out.new ≡ out.old) × (sink.new ≡ sink.old)) }
     {
         let set = self.set()?;
         set.path(file, j, out, sink)

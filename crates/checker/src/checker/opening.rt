@@ -1,28 +1,36 @@
 // A checker, and the set that it opens.
-ghost use Rattle.std.specs.Prelude.{◌≡◌, OnOk, OnErr};
+ghost use Rattle.std.specs.Prelude.{◌≡◌, OnErr};
 ghost use Rattle.image.specs.Files.{bytes_of, files_of};
-ghost use Rattle.links.specs.Linked.{AllLinked};
 ghost use Rattle.checker.specs.Opened.{OpensSet};
-ghost use Rattle.checker.specs.Seen.{view_of, view_in, view_none, Kept};
+ghost use Rattle.checker.specs.Seen.{view_of, view_in, view_none};
 ghost use Rattle.checker.specs.Views.{fresh};
 
-use super::{Checker, OpenSet};
+use super::{Checker, LinkedImage, OpenSet};
 use crate::refused::OpenRefusal;
 use crate::states::States;
 use image::Image;
 use links::link_files;
 
+impl<'a> LinkedImage<'a> {
+    // Reads every file of an image.
+    fn new(image: Image<'a>) -> LinkedImage<'a>
+        ensures { result.image ≡ image.entry }
+    {
+        LinkedImage {
+            links: link_files(&image),
+            image,
+        }
+    }
+}
+
 impl<'a> OpenSet<'a> {
     // The files of an image, all pending.
     fn new(image: Image<'a>) -> OpenSet<'a>
-        ensures image { result.image ≡ image.entry }
-        ensures linked { AllLinked (bytes_of image.entry) (files_of image.entry) result.links }
-        ensures pending { view_in result ≡ fresh (bytes_of image.entry) (files_of image.entry) }
+        ensures { view_in result ≡ fresh (bytes_of image.entry) (files_of image.entry) }
     {
         OpenSet {
-            links: link_files(&image),
+            files: LinkedImage::new(image),
             states: States::pending(),
-            image,
         }
     }
 }
@@ -30,8 +38,7 @@ impl<'a> OpenSet<'a> {
 impl<'a> Checker<'a> {
     // Nothing is opened.
     pub fn new() -> Checker<'a>
-        ensures none { view_of result ≡ view_none }
-        ensures kept { Kept result }
+        ensures { view_of result ≡ view_none }
     {
         Checker { opened: None }
     }
@@ -39,7 +46,6 @@ impl<'a> Checker<'a> {
     // Opens the set of an image, unless one is opened; a refusal leaves all as it was.
     pub fn open(&mut self, bytes: &'a [u8]) -> Result<(), OpenRefusal>
         ensures opens { OpensSet (view_of self.old) bytes.now result (view_of self.new) }
-        ensures kept { OnOk result (Kept self.new) }
         ensures same { OnErr result (self.new ≡ self.old) }
     {
         if self.opened.is_some() {

@@ -1,6 +1,7 @@
 // What is told of a file and of the whole set: a verdict, the line of a file, and the last line.
 ghost use Rattle.std.specs.Prelude.{◌≡◌, ◌==◌};
-ghost use Rattle.checker.specs.Calls.{Tells, Lines, Tails, one_accepted, accepted};
+ghost use Rattle.report.specs.Texts.{refused_text};
+ghost use Rattle.checker.specs.Calls.{Written, Tells, Lines, Tails, one_accepted, accepted};
 ghost use Rattle.checker.specs.Seen.{view_of, view_in};
 ghost use Rattle.checker.specs.Views.{told};
 
@@ -8,7 +9,7 @@ use super::writing::write_text;
 use super::{Checker, OpenSet};
 use crate::refused::CallRefusal;
 use crate::state::State;
-use report::{FileLine, Summary};
+use report::{FileLine, RefusedLine, Summary};
 use verdict::{Fault, tell_verdict};
 
 // The verdict of a file in this state; none before it is settled.
@@ -28,12 +29,19 @@ fn is_accepted(state: State) -> bool
     matches!(verdict_of(state), Some(Ok(())))
 }
 
+// The line of a refusal, by its number and slot, from the buffer's start.
+pub fn refusal(number: u8, slot: u16, out: &mut [u8]) -> Result<usize, CallRefusal>
+    ensures { Written (refused_text number slot) out.old result out.new }
+{
+    write_text(&RefusedLine { number, slot }, out)
+}
+
 impl<'a> OpenSet<'a> {
     // How many files are accepted.
     fn accepted(&self) -> usize
         ensures { result ≡ accepted (view_in self.now).row (view_in self.now).count }
     {
-        (1..=self.image.count())
+        (1..=self.files.image.count())
             .filter(|file| is_accepted(self.states.get(*file)))
             .count()
     }
@@ -64,7 +72,7 @@ impl<'a> Checker<'a> {
     {
         let set = self.set()?;
         let summary = Summary {
-            files: set.image.count(),
+            files: set.files.image.count(),
             accepted: set.accepted(),
         };
         write_text(&summary, out)

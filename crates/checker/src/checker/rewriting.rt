@@ -1,7 +1,6 @@
 // The canonical text of a file.
-ghost use Rattle.std.specs.Prelude.{◌≡◌, OnErr};
 ghost use Rattle.checker.specs.Calls.{Rewrites, FileRewritten};
-ghost use Rattle.checker.specs.Seen.{view_of, Kept};
+ghost use Rattle.checker.specs.Seen.{view_of};
 
 use super::Checker;
 use super::writing::write_text;
@@ -25,10 +24,9 @@ fn write_canonical_text(file: File<'_>, out: &mut [u8]) -> Result<usize, CallRef
 }
 
 impl<'a> Checker<'a> {
-    // The canonical text of a file, from the buffer's start. That the set is kept stands as a premise: no invariant of `Checker` says it yet.
+    // The canonical text of a file, from the buffer's start.
     pub fn rewrite(&self, file: usize, out: &mut [u8]) -> Result<usize, CallRefusal>
-        ensures rewrites { Kept self.now → Rewrites (view_of self.now) file out.old result out.new }
-        ensures same { OnErr result (out.new ≡ out.old) }
+        ensures { Rewrites (view_of self.now) file out.old result out.new }
     {
         let file = self.set()?.file(file)?;
         write_canonical_text(file, out)

@@ -41,9 +41,13 @@ impl<'a> OpenSet<'a> {
     // The number of the file at the path that a string means, if there is one.
     // Not `links::find`, which takes the path's bytes: of a sorted row it is known what its path means, and not that it stands so in the text.
     fn find_said(&self, path: Said<'_>) -> Option<usize>
-        ensures { Found (bytes_of self.now.image) (files_of self.now.image) (said_by path.entry) result }
+        ensures { Found (bytes_of self.now.files.image) (files_of self.now.files.image) (said_by path.entry) result }
     {
-        let before = self.image.files().position(|file| path.says(file.path))?;
+        let before = self
+            .files
+            .image
+            .files()
+            .position(|file| path.says(file.path))?;
         Some(before + 1)
     }
 
@@ -116,7 +120,7 @@ impl<'a> OpenSet<'a> {
         requires stored { StorePath path.now }
         requires near { length path.now ≤ 255 }
         requires short { length text.now ≤ 262144 }
-        ensures { HashedFile (kind_of S.Sink.step S.DigestSink.start S.DigestSink.capacity S.DigestSink.answered) (view_in self.now) path.now text.now (S.Sink.held sink.old).meaning result.value result.count (S.Sink.held sink.new).meaning }
+        ensures { HashedFile (kind_of S.Sink.step S.DigestSink.start S.DigestSink.capacity S.DigestSink.answered S.DigestSink.wide) (view_in self.now) path.now text.now (S.Sink.held sink.old).meaning result.value result.count (S.Sink.held sink.new).meaning }
     {
         let sorted = sorted_file(path, text, file);
         let rows = sorted.inputs.as_slice();
@@ -150,8 +154,8 @@ impl<'a> OpenSet<'a> {
         requires stored { StorePath file.path.now }
         requires near { length file.path.now ≤ 255 }
         requires short { length file.text.now ≤ 262144 }
-        requires linked { RowsLinked (bytes_of self.now.image) (files_of self.now.image) file.path.now file.text.now links.now }
-        ensures { ReadDecided (kind_of S.Sink.step S.DigestSink.start S.DigestSink.capacity S.DigestSink.answered) (view_in self.now) file.entry.path.now file.entry.text.now (S.Sink.held sink.old).meaning result.value result.count (S.Sink.held sink.new).meaning }
+        requires linked { RowsLinked (bytes_of self.now.files.image) (files_of self.now.files.image) file.path.now file.text.now links.now }
+        ensures { ReadDecided (kind_of S.Sink.step S.DigestSink.start S.DigestSink.capacity S.DigestSink.answered S.DigestSink.wide) (view_in self.now) file.entry.path.now file.entry.text.now (S.Sink.held sink.old).meaning result.value result.count (S.Sink.held sink.new).meaning }
     {
         match self.fault_of_links(links, read.inputs.as_slice()) {
             Some(fault) => Counted {
@@ -175,8 +179,8 @@ impl<'a> OpenSet<'a> {
         requires stored { StorePath file.path.now }
         requires near { length file.path.now ≤ 255 }
         requires short { length file.text.now ≤ 262144 }
-        requires linked { FileLinked (bytes_of self.now.image) (files_of self.now.image) file.path.now file.text.now links }
-        ensures { ReadDecided (kind_of S.Sink.step S.DigestSink.start S.DigestSink.capacity S.DigestSink.answered) (view_in self.now) file.entry.path.now file.entry.text.now (S.Sink.held sink.old).meaning result.value result.count (S.Sink.held sink.new).meaning }
+        requires linked { FileLinked (bytes_of self.now.files.image) (files_of self.now.files.image) file.path.now file.text.now links }
+        ensures { ReadDecided (kind_of S.Sink.step S.DigestSink.start S.DigestSink.capacity S.DigestSink.answered S.DigestSink.wide) (view_in self.now) file.entry.path.now file.entry.text.now (S.Sink.held sink.old).meaning result.value result.count (S.Sink.held sink.new).meaning }
     {
         match (read_file(file.path, file.text), links) {
             (Ok(read), Some(links)) => self.settle_read(file, &read, &links, sink),

@@ -1,7 +1,7 @@
 // Visits to the files of a set: take, settle, put back.
-ghost use Rattle.std.specs.Prelude.{◌≡◌, Decides, Some, OnErr, IfErr};
-ghost use Rattle.checker.specs.Calls.{SomeTaken, Takes, Settles, PutsBack};
-ghost use Rattle.checker.specs.Seen.{view_of, view_in, visited, Kept, KeptIn, Stays, told_back};
+ghost use Rattle.std.specs.Prelude.{◌≡◌, Decides, OnOk, OnErr, IfErr};
+ghost use Rattle.checker.specs.Calls.{SomeTaken, Takes, VisitRefused, SomeSettled, Settles, PutsBack};
+ghost use Rattle.checker.specs.Seen.{view_of, view_in, visited, told_back};
 ghost use Rattle.checker.specs.Settling.{kind_of};
 ghost use Rattle.checker.specs.Soundness.{SoundView};
 ghost use Rattle.checker.specs.Views.{TakenAt};
@@ -27,8 +27,7 @@ impl<'a> OpenSet<'a> {
     }
 
     fn take(&mut self) -> Result<Visit, CallRefusal>
-        ensures takes { KeptIn (Some self.old) → Takes (view_in self.old) (visited result) (view_in self.new) }
-        ensures stays { (self.new.image ≡ self.old.image) × (self.new.links ≡ self.old.links) }
+        ensures takes { Takes (view_in self.old) (visited result) (view_in self.new) }
         ensures same { OnErr result (self.new ≡ self.old) }
     {
         if self.has_taken() {
@@ -39,15 +38,15 @@ impl<'a> OpenSet<'a> {
         Ok(Visit { file })
     }
 
-    // The file is settled with what is decided of it. The precondition goes when the set's type carries the fact.
+    // The file is settled with what is decided of it.
     fn settle<S: DigestSink>(
         &mut self,
         visit: Visit,
         sink: &mut S,
     ) -> Result<u64, (Visit, CallRefusal)>
-        requires { KeptIn (Some self.old) }
-        ensures settles { SoundView (kind_of S.Sink.step S.DigestSink.start S.DigestSink.capacity S.DigestSink.answered) (view_in self.old) → Settles (kind_of S.Sink.step S.DigestSink.start S.DigestSink.capacity S.DigestSink.answered) (view_in self.old) visit.file (S.Sink.held sink.old).meaning (told_back result) (view_in self.new) (S.Sink.held sink.new).meaning }
-        ensures stays { (self.new.image ≡ self.old.image) × (self.new.links ≡ self.old.links) }
+        ensures settles { SoundView (kind_of S.Sink.step S.DigestSink.start S.DigestSink.capacity S.DigestSink.answered S.DigestSink.wide) (view_in self.old) → Settles (kind_of S.Sink.step S.DigestSink.start S.DigestSink.capacity S.DigestSink.answered S.DigestSink.wide) (view_in self.old) visit.file (S.Sink.held sink.old).meaning (told_back result) (view_in self.new) (S.Sink.held sink.new).meaning }
+        ensures changes { OnOk result (SomeSettled (view_in self.old) visit.file (view_in self.new)) }
+        ensures refused { IfErr result (λ e. VisitRefused (view_in self.old) visit.file e.1) }
         ensures same { OnErr result ((self.new ≡ self.old) × (sink.new ≡ sink.old)) }
         ensures back { IfErr result (λ e. e.0 ≡ visit) }
     {
@@ -55,15 +54,14 @@ impl<'a> OpenSet<'a> {
             return Err((visit, CallRefusal::NotTaken));
         }
         let Visit { file: number } = visit;
-        let file = self.image.file(number).unwrap();
-        let decided = self.settle_file(file, self.links.get(number), sink);
+        let file = self.files.image.file(number).unwrap();
+        let decided = self.settle_file(file, self.files.links.get(number), sink);
         self.states.put(number, State::Settled(decided.value));
         Ok(decided.count)
     }
 
     fn put_back(&mut self, visit: Visit) -> Result<(), (Visit, CallRefusal)>
         ensures puts { PutsBack (view_in self.old) visit.file (told_back result) (view_in self.new) }
-        ensures stays { (self.new.image ≡ self.old.image) × (self.new.links ≡ self.old.links) }
         ensures same { OnErr result (self.new ≡ self.old) }
         ensures back { IfErr result (λ e. e.0 ≡ visit) }
     {
@@ -79,8 +77,7 @@ impl<'a> OpenSet<'a> {
 impl<'a> Checker<'a> {
     // A visit to the file that is chosen; no other visit may be out.
     pub fn take(&mut self) -> Result<Visit, CallRefusal>
-        ensures takes { Kept self.old → Takes (view_of self.old) (visited result) (view_of self.new) }
-        ensures stays { Stays self.old self.new }
+        ensures takes { Takes (view_of self.old) (visited result) (view_of self.new) }
         ensures same { OnErr result (self.new ≡ self.old) }
     {
         match &mut self.opened {
@@ -90,15 +87,14 @@ impl<'a> Checker<'a> {
     }
 
     // The file is settled, and the answer is how many bytes are digested for it; a refusal hands the visit back.
-    // The precondition goes when the set's type carries the fact; until then this is no `pub` call.
-    fn settle<S: DigestSink>(
+    pub fn settle<S: DigestSink>(
         &mut self,
         visit: Visit,
         sink: &mut S,
     ) -> Result<u64, (Visit, CallRefusal)>
-        requires { Kept self.old }
-        ensures settles { SoundView (kind_of S.Sink.step S.DigestSink.start S.DigestSink.capacity S.DigestSink.answered) (view_of self.old) → Settles (kind_of S.Sink.step S.DigestSink.start S.DigestSink.capacity S.DigestSink.answered) (view_of self.old) visit.file (S.Sink.held sink.old).meaning (told_back result) (view_of self.new) (S.Sink.held sink.new).meaning }
-        ensures stays { Stays self.old self.new }
+        ensures settles { SoundView (kind_of S.Sink.step S.DigestSink.start S.DigestSink.capacity S.DigestSink.answered S.DigestSink.wide) (view_of self.old) → Settles (kind_of S.Sink.step S.DigestSink.start S.DigestSink.capacity S.DigestSink.answered S.DigestSink.wide) (view_of self.old) visit.file (S.Sink.held sink.old).meaning (told_back result) (view_of self.new) (S.Sink.held sink.new).meaning }
+        ensures changes { OnOk result (SomeSettled (view_of self.old) visit.file (view_of self.new)) }
+        ensures refused { IfErr result (λ e. VisitRefused (view_of self.old) visit.file e.1) }
         ensures same { OnErr result ((self.new ≡ self.old) × (sink.new ≡ sink.old)) }
         ensures back { IfErr result (λ e. e.0 ≡ visit) }
     {
@@ -111,7 +107,6 @@ impl<'a> Checker<'a> {
     // The file is pending again; a refusal hands the visit back.
     pub fn put_back(&mut self, visit: Visit) -> Result<(), (Visit, CallRefusal)>
         ensures puts { PutsBack (view_of self.old) visit.file (told_back result) (view_of self.new) }
-        ensures stays { Stays self.old self.new }
         ensures same { OnErr result (self.new ≡ self.old) }
         ensures back { IfErr result (λ e. e.0 ≡ visit) }
     {

@@ -26,8 +26,7 @@ impl HashRows {
     }
 
     // The table with this row in the place of any with its hash; there is room for one more.
-    // Public; here `gather_from` alone calls it, for at most 64 rows.
-    pub fn with(self, hash: Hash, row: usize) -> HashRows
+    pub(crate) fn with(self, hash: Hash, row: usize) -> HashRows
         requires { length (held self) < 64 }
         ensures placed { Placed (held self) (row_of hash row) (held result) }
         ensures few { length (held result) ≤ length (held self) + 1 }

@@ -2,7 +2,9 @@
 ghost use Rattle.std.specs.Prelude.{◌≡◌, ℕ, List};
 ghost use Rattle.sink.specs.Digest.{Begins, digest};
 ghost use Rattle.sha256.specs.Fips as fips;
+ghost use Rattle.sha256.specs.Fips.{LeastZeros};
 ghost use Rattle.sha256.specs.Hashing as hs;
+ghost use Rattle.sha256.specs.Wide.{answers_wide};
 
 use super::Sha256;
 use crate::blocks::Blocks;
@@ -52,9 +54,12 @@ impl DigestSink for Sha256 {
 
     ghost answered = { hs.answer };
 
-    // The digest of this sink is the one of the standard, for every string.
+    ghost wide = { answers_wide };
+
+    // The digest of this sink is the one of the standard, for every string; and its padding has the least count of zeros that the standard asks for.
     fn begin(&mut self)
         ensures begins { Begins hs.start 16777216 (hs.hashed self.old).meaning (hs.hashed self.new).meaning }
+        ensures padding { (n : ℕ) → LeastZeros n (fips.zeros n) }
         ensures standard { (bs : List ℕ) → digest hs.step hs.start hs.answer bs ≡ fips.digest bs }
     {
         let blocks = Blocks::new();

@@ -1,4 +1,4 @@
-use Rattle.std.proofs.Common.{◌≡◌, ℕ, ◌⊎◌, List, map, Some, None, sym, refl, ◌∙◌, subst, inl, inr, arith}
+use Rattle.std.proofs.Common.{◌≡◌, ℕ, List, map, Some, sym, refl, ◌∙◌, subst}
 use Rattle.std.proofs.lemmas.Bool.Decides.{Decides-like}
 use Rattle.aterm.specs.Files.{output, in_output}
 use Rattle.aterm.specs.Grammar.{meaning}
@@ -13,10 +13,8 @@ use Rattle.links.proofs.Ownership.{owned_unread, owned_from, owned_to}
 use Rattle.links.proofs.owning.is_owned.Goals as goal
 
 module _ (img : Bytes) (n number : ℕ) (path text : Bytes) (s : Stands img n number path text) (p : Bytes) where
-  -- a file that is there is not asked for as 0
-  same : Found img n p (Some number) ⊎ ((number ≡ 0) × Found img n p None) → path ≡ p
-  same (inl found) = sym s.named ∙ found.2
-  same (inr none) = absurd (omega (arith, none.0, s.from))
+  same : Found img n p (Some number) → path ≡ p
+  same found = sym s.named ∙ found.2
 
   there : path ≡ p → set_of img n p ≡ Some text
   there e = subst (λ (q : Bytes). set_of img n q ≡ Some text) e s.there

@@ -1,5 +1,5 @@
-use Rattle.sink.proofs.Writing.{written_append}
+use Rattle.sink.proofs.Writing.{written_joins}
 use Rattle.sink.proofs.digest.writing_joins.Goals as goal
 
 pub returns : goal.returns
-returns c = written_append
+returns c = written_joins

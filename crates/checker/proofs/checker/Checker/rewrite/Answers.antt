@@ -1,6 +1,6 @@
 use Rattle.std.proofs.Common.{refl}
 use Rattle.checker.specs.Seen.{view_in}
-use Rattle.checker.proofs.Rewritten.{rewritten_in, untouched}
+use Rattle.checker.proofs.Rewritten.{rewritten_in}
 use Rattle.checker.proofs.checker.Checker.rewrite.Goals as goal
 
 pub returns : goal.returns
@@ -12,7 +12,4 @@ returns c =
     let r = c.write_canonical_text.result in
     let after = c.write_canonical_text.new.out in
     let done = c.write_canonical_text.ensures in
-    record {
-      rewrites = λ kept. rewritten_in c.args.self.now.opened (view_in c.in_ok-set.field-0.now) c.args.file path text out r after kept c.in_ok-set.ensures refl there.0 there.1 there.2 done;
-      same = untouched path text out r after done;
-    }
+    rewritten_in c.args.self.now.opened (view_in c.in_ok-set.field-0.now) c.args.file path text out r after c.in_ok-set.ensures refl there.0 there.1 there.2 done

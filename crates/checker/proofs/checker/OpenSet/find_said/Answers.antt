@@ -28,8 +28,8 @@ module _ (img : Bytes) (n : ℕ) (p : Bytes) where
 
 pub returns-in_err-before : goal.returns-in_err-before
 returns-in_err-before c =
-    let img = bytes_of c.args.self.now.image in
-    let n = files_of c.args.self.now.image in
+    let img = bytes_of c.args.self.now.files.image in
+    let n = files_of c.args.self.now.files.image in
     let p = said_by c.args.path in
     let none = IsFirst-from_position c.position.new.self _ None (Is img n p) (Other img n p) c.in_err-before.ensures.ran
     (YieldsList-from_first pair files_left (files_from img 1 n) c.files.ensures.are) (λ x q k. search (rules, tests)) (λ x q k. search (rules, tests)) in
@@ -37,8 +37,8 @@ returns-in_err-before c =
 
 pub returns : goal.returns
 returns c =
-    let img = bytes_of c.args.self.now.image in
-    let n = files_of c.args.self.now.image in
+    let img = bytes_of c.args.self.now.files.image in
+    let n = files_of c.args.self.now.files.image in
     let p = said_by c.args.path in
     let before = c.in_ok-before.before in
     let some = IsFirst-from_position c.position.new.self _ (Some before) (Is img n p) (Other img n p) c.in_ok-before.ensures.ran

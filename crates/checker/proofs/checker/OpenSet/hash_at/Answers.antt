@@ -9,4 +9,4 @@ pub returns : goal.returns
 returns c = λ k h a u.
     c.hash_in.ensures
     ∙ ap hash_kept c.get.ensures
-    ∙ kept_at (view_in c.args.self.now) c.args.self.now.image.opens (said_by c.args.path) c.in_ok-file.file c.in_ok-file.ensures k h a u
+    ∙ kept_at (view_in c.args.self.now) c.args.self.now.files.image.opens (said_by c.args.path) c.in_ok-file.file c.in_ok-file.ensures k h a u

@@ -29,7 +29,7 @@ returns-then-is_fixed g c =
     let s = g.S.Sink in
     let d = g.S.DigestSink in
     let of = c.args.of in
-    fixed_located (kind_of s.step d.start d.capacity d.answered) (view_in c.args.self.now) of.path.now (file_by of) (output_value of.text.now c.args.output)
+    fixed_located (kind_of s.step d.start d.capacity d.answered d.wide) (view_in c.args.self.now) of.path.now (file_by of) (output_value of.text.now c.args.output)
     (s.held c.args.sink.now).meaning (s.held c.fixed_path.new.sink).meaning c.fixed_path.result.value.bytes c.fixed_path.result.count
     (c.is_fixed.ensures.0 c.if-is_fixed.true) c.fixed_path.ensures
 
@@ -60,7 +60,7 @@ returns g c =
     let each = c.input_hashes-hashes.ensures (short_rows text of.file.now vs c.as_slice-rows.ensures c.requires.limits.inputs) in
     let right = c.hash_inputs.ensures text w.given w.aligned in
     let rows = values (hash_input_value text) (rows_of c.hash_inputs.result) in
-    masked_located (kind_of s.step d.start d.capacity d.answered) v of.path.now m (output_value text c.args.output)
+    masked_located (kind_of s.step d.start d.capacity d.answered d.wide) v of.path.now m (output_value text c.args.output)
     (s.held c.args.sink.now).meaning (s.held c.path_by.new.sink).meaning c.path_by.result.value.bytes
     (not_from_Decides c.is_fixed.result c.is_fixed.ensures c.if-is_fixed.false)
     w.given (known_of v of.path.now text of.file.now vs hashes c.as_slice-rows.ensures each w)

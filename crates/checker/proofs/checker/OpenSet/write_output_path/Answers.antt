@@ -7,8 +7,8 @@ use Rattle.right_paths.specs.declared.said.Said.{Said}
 use Rattle.checker.specs.Calls.{Put}
 use Rattle.checker.proofs.checker.OpenSet.write_output_path.Goals as goal
 
-pub returns : goal.returns
-returns g c =
+pub returns-clause-put : goal.returns-clause-put
+returns-clause-put g c =
     let of = c.args.of in
     let p = of.path.now in
     let digits = c.output_digits-digits.result.bytes in

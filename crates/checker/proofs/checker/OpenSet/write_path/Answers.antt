@@ -3,8 +3,8 @@ use Rattle.derivation.specs.Judgement.{JudgedFile}
 use Rattle.file_meaning.proofs.Judged.{not_both}
 use Rattle.checker.proofs.checker.OpenSet.write_path.Goals as goal
 
-pub returns-in_default : goal.returns-in_default
-returns-in_default g c =
+pub returns-in_default-clause-located : goal.returns-in_default-clause-located
+returns-in_default-clause-located g c =
     let path = c.args.file.path.now in
     let text = c.args.file.text.now in
     let fault = subst (JudgedFile path text) c.in_default.is c.read_file.ensures in

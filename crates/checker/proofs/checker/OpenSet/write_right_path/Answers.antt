@@ -18,8 +18,8 @@ write_output_path-requires-clause-there g c =
     let less : c.args.j - 1 < length rows = search rules in
     output_there (λ (w : Placed Output). output_value t w.value) (file_by of) rows (c.args.j - 1) row (ap (values (output_value t)) (sym c.as_slice-rows.ensures)) less here
 
-pub returns : goal.returns
-returns g c =
+pub returns-clause-located : goal.returns-clause-located
+returns-clause-located g c =
     let s = g.S.Sink in
     let d = g.S.DigestSink in
     let of = c.args.of in
@@ -29,5 +29,5 @@ returns g c =
     let here : row ≡ get_or rows (c.args.j - 1) row = search rules in
     let less : c.args.j - 1 < length rows = search rules in
     output_located (λ (w : Placed Output). output_value t w.value) (file_by of) rows (c.args.j - 1) row (ap (values (output_value t)) (sym c.as_slice-rows.ensures)) less here
-    (kind_of s.step d.start d.capacity d.answered) (view_in c.args.self.now) of.path.now c.args.out.now (s.held c.args.sink.now).meaning
-    c.write_output_path.result c.write_output_path.new.out (s.held c.write_output_path.new.sink).meaning c.write_output_path.ensures c.args.j (omega (arith, c.if-j-eq0.false))
+    (kind_of s.step d.start d.capacity d.answered d.wide) (view_in c.args.self.now) of.path.now c.args.out.now (s.held c.args.sink.now).meaning
+    c.write_output_path.result c.write_output_path.new.out (s.held c.write_output_path.new.sink).meaning c.write_output_path.ensures.put c.args.j (omega (arith, c.if-j-eq0.false))

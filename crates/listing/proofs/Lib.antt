@@ -1,4 +1,0 @@
-pub mod Alone
-pub mod Lines
-pub mod Order
-pub mod PathLines
