@@ -33,7 +33,7 @@ use Rattle.verdict.proofs.Rows.{each, row_there, no_stands}
 use Rattle.sink.specs.Write as sinks
 use Rattle.checker.specs.Calls.{Kind, D, MaskedHash, with_hash, without, Decides}
 use Rattle.checker.specs.Settling as settling
-use Rattle.checker.specs.Settling.{FirstSpot, LinksAsked, HashedFile, ReadSettled, ReadDecided, faulty, sure}
+use Rattle.checker.specs.Settling.{FirstSpot, LinksAsked, HashedFile, ReadSettled, ReadDecided, faulted, faulty, sure}
 use Rattle.checker.specs.Soundness.{SoundView, WaitingAt}
 use Rattle.checker.specs.Views.{View, files, path_at, NumberOf, TakenAt, HashedAt, UnhashedAt}
 use Rattle.checker.specs.declared.standing.Standing.{Standing}
@@ -315,7 +315,7 @@ decides_at kind v opens l file path text a linked before after s count r sound k
 
 -- a file that does not read
 pub unread_at : (kind : Kind) (v : View) (path text : Bytes) (f : FileFault) → IsFileFault path text f → (before : sinks.Meaning)
-    → ReadDecided kind v path text before (record { verdict = Err (fault.Reading f); hashes = None }) 0 before
+    → ReadDecided kind v path text before (faulted (fault.Reading f)) 0 before
 unread_at kind v path text f is before sound k taken e here = record {
   verdict = judged.unread text here f is refl;
   outcome = without refl (λ y. none y) refl refl;

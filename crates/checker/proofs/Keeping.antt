@@ -10,8 +10,9 @@ use Rattle.image.specs.Opening.{Opens}
 use Rattle.links.proofs.Files.{set_only}
 use Rattle.sink.specs.Write as sinks
 use Rattle.checker.specs.Calls.{Kind, D, MaskedHash, NoneTaken, Chosen, first_ready, first_pending, Takes, Outcome, with_hash, without, Decides, Settles, PutsBack}
+use Rattle.checker.specs.Seen.{view_none}
 use Rattle.checker.specs.Soundness.{RowRight, WaitingAt, NoneReady, InputsHashedAt, SoundView}
-use Rattle.checker.specs.Views.{View, fresh, files, path_at, NumberOf, PendingAt, TakenAt, HashedAt, UnhashedAt, ReadyFile, early, spoilt, supplied, Changes}
+use Rattle.checker.specs.Views.{View, fresh, files, path_at, Exists, NumberOf, PendingAt, TakenAt, HashedAt, UnhashedAt, ReadyFile, early, spoilt, supplied, Changes}
 use Rattle.checker.specs.declared.refused.CallRefusal.{CallRefusal}
 use Rattle.checker.specs.declared.state.Hashes.{Hashes}
 use Rattle.checker.specs.declared.state.Settlement.{Settlement}
@@ -128,6 +129,18 @@ changed_inputs kind v row k not others new sound j h a m e r o = stays_supplied 
     stays i s e = others i (λ same. not s (ap v.row (sym same) ∙ e)) ∙ e
 
 -- ---- open
+
+no_file : (k : ℕ) → Exists view_none k → ⊥
+no_file k x = omega (arith, x.0, x.1)
+
+-- where nothing is opened there is no file
+pub none_sound : (kind : Kind) (v : View) → v ≡ view_none → SoundView kind v
+none_sound kind v e = subst (SoundView kind) (sym e) (record {
+  right = λ k s x q. absurd (no_file k x);
+  one = λ j k a b. absurd (no_file j a.exists);
+  held = λ k a. absurd (no_file k a.exists);
+  inputs = λ k h a. absurd (no_file k a.exists);
+})
 
 pub fresh_sound : (kind : Kind) (img : Bytes) (n : ℕ) → SoundView kind (fresh img n)
 fresh_sound kind img n = record {

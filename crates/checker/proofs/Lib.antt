@@ -13,6 +13,7 @@ pub mod Keeping
 pub mod Linking
 pub mod Locating
 pub mod Looking
+pub mod Mapped
 pub mod Opening
 pub mod Phases
 pub mod Placed
@@ -33,6 +34,7 @@ pub mod Settling
 pub mod Single
 pub mod Steps
 pub mod Telling
+pub mod Totals
 pub mod Turns
 pub mod Verdicts
 pub mod Ways

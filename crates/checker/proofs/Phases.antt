@@ -4,7 +4,7 @@ use Rattle.std.proofs.lemmas.Bool.{cases_eq}
 use Rattle.canonical.specs.Order.{Member}
 use Rattle.sink.specs.Write as sinks
 use Rattle.checker.specs.Calls.{Kind, Takes, Settles, PutsBack}
-use Rattle.checker.specs.Events.{Event, took, settled, returned, told, located, rewritten, circled, lined, tailed, Stage, Happens, Runs}
+use Rattle.checker.specs.Events.{Event, took, settled, returned, told, located, rewritten, circled, lined, tailed, Stage, Happens, Leads}
 use Rattle.checker.specs.Theorem.{settles, HandsOut, Ends, NoneEnds, OutAfter, PhaseRight}
 use Rattle.checker.specs.Views.{View, Exists, TakenAt, Changes}
 use Rattle.checker.specs.declared.refused.CallRefusal.{CallRefusal}
@@ -81,35 +81,39 @@ turns kind k s t (tailed w out r) (h, x) = quiet k s.view t.view (tailed w out r
 -- ---- a list of calls
 
 module _ (kind : Kind) (k : ℕ) where
+  -- a call from the view v on
+  turns_from : (v : View) (s t : Stage) (e : Event) → s.view ≡ v → Happens kind s e t → Turns k v e t.view
+  turns_from v s t e from h = subst (λ (x : View). Turns k x e t.view) from (turns kind k s t e h)
+
   -- what was taken before and whose visit none of these calls ends is taken
-  held : (es : List Event) (s t : Stage) → Runs kind s es t → TakenAt s.view k → NoneEnds k es → TakenAt t.view k
-  held [] s t same a n = subst (λ (x : Stage). TakenAt x.view k) (sym same) a
-  held (e ∷ es) s t (u, h, more) a n = held es u t more ((turns kind k s u e h).stays a n.0) n.1
+  held : (es : List Event) (v w : View) → Leads kind v es w → TakenAt v k → NoneEnds k es → TakenAt w k
+  held [] v w same a n = subst (λ (x : View). TakenAt x k) (sym same) a
+  held (e ∷ es) v w (s, from, t, h, more) a n = held es t.view w more ((turns_from v s t e from h).stays a n.0) n.1
 
-  out_taken : (es : List Event) (s t : Stage) → Runs kind s es t → OutAfter k es → TakenAt t.view k
-  out_taken [] s t same x = absurd x
-  out_taken (e ∷ es) s t (u, h, more) (inl x) = held es u t more ((turns kind k s u e h).out x.0) x.1
-  out_taken (e ∷ es) s t (u, h, more) (inr x) = out_taken es u t more x
+  out_taken : (es : List Event) (v w : View) → Leads kind v es w → OutAfter k es → TakenAt w k
+  out_taken [] v w same x = absurd x
+  out_taken (e ∷ es) v w (s, from, t, h, more) (inl x) = held es t.view w more ((turns_from v s t e from h).out x.0) x.1
+  out_taken (e ∷ es) v w (s, from, t, h, more) (inr x) = out_taken es t.view w more x
 
-  taken_out : (es : List Event) (s t : Stage) → Runs kind s es t → TakenAt t.view k → OutAfter k es ⊎ (TakenAt s.view k × NoneEnds k es)
-  taken_out [] s t same a = inr (subst (λ (x : Stage). TakenAt x.view k) same a, tt)
-  taken_out (e ∷ es) s t (u, h, more) a = elim (taken_out es u t more a) [
+  taken_out : (es : List Event) (v w : View) → Leads kind v es w → TakenAt w k → OutAfter k es ⊎ (TakenAt v k × NoneEnds k es)
+  taken_out [] v w same a = inr (subst (λ (x : View). TakenAt x k) same a, tt)
+  taken_out (e ∷ es) v w (s, from, t, h, more) a = elim (taken_out es t.view w more a) [
     | inl x ↦ inl (inr x)
-    | inr x ↦ elim ((turns kind k s u e h).from x.0) [ inl y ↦ inl (inl (y, x.1)) | inr y ↦ inr (y.0, (y.1, x.1)) ]
+    | inr x ↦ elim ((turns_from v s t e from h).from x.0) [ inl y ↦ inl (inl (y, x.1)) | inr y ↦ inr (y.0, (y.1, x.1)) ]
   ]
 
--- from a stage where the file k is not taken on, where the settled files are those of the settles
-pub phase_after : (kind : Kind) (s t : Stage) (es : List Event) (k : ℕ) → Exists t.view k → Runs kind s es t → (TakenAt s.view k → ⊥)
-    → (Member k (settles es) → SettledAt t.view k) → (SettledAt t.view k → Member k (settles es)) → PhaseRight es k (t.view.row k)
-phase_after kind s t es k x runs none there back = way (t.view.row k) refl
+-- from a view where the file k is not taken on, where the settled files are those of the settles
+pub phase_after : (kind : Kind) (v w : View) (es : List Event) (k : ℕ) → Exists w k → Leads kind v es w → (TakenAt v k → ⊥)
+    → (Member k (settles es) → SettledAt w k) → (SettledAt w k → Member k (settles es)) → PhaseRight es k (w.row k)
+phase_after kind v w es k x leads none there back = way (w.row k) refl
   where
-    out : OutAfter k es → TakenAt t.view k
-    out = out_taken kind k es s t runs
+    out : OutAfter k es → TakenAt w k
+    out = out_taken kind k es v w leads
 
-    way : (y : State) → t.view.row k ≡ y → PhaseRight es k y
-    way Pending e = (λ m. let z = there m in not_settled (t.view.row k) z.0 e z.1, λ o. not_taken (t.view.row k) e (out o).is)
+    way : (y : State) → w.row k ≡ y → PhaseRight es k y
+    way Pending e = (λ m. let z = there m in not_settled (w.row k) z.0 e z.1, λ o. not_taken (w.row k) e (out o).is)
     way Taken e = (
-      λ m. let z = there m in taken_settled (t.view.row k) z.0 e z.1,
-      elim (taken_out kind k es s t runs (record { exists = x; is = e })) [ inl o ↦ o | inr a ↦ absurd (none a.0) ],
+      λ m. let z = there m in taken_settled (w.row k) z.0 e z.1,
+      elim (taken_out kind k es v w leads (record { exists = x; is = e })) [ inl o ↦ o | inr a ↦ absurd (none a.0) ],
     )
-    way (Settled z) e = (back (z, e), λ o. taken_settled (t.view.row k) z (out o).is e)
+    way (Settled z) e = (back (z, e), λ o. taken_settled (w.row k) z (out o).is e)

@@ -2,7 +2,7 @@
 use mathlib.Core.Logic.{∥∥₁_elim}
 use mathlib.Core.HLevel.{⊥_prop}
 use native.Mathlib.Bridge.{le_prop}
-use Rattle.std.proofs.Common.{◌≡◌, ℕ, zero, suc, ◌<◌, ◌≤◌, Bool, true, false, cond, List, [], ◌∷◌, length, get_or, codes, Some, None, Option, Ok, Err, Result, IfErr, sym, refl, ap, ◌∙◌, subst, inl, inr, arith}
+use Rattle.std.proofs.Common.{◌≡◌, ℕ, zero, suc, ◌<◌, ◌≤◌, Bool, true, false, cond, List, [], ◌∷◌, length, get_or, codes, Some, None, Option, Ok, Err, Result, IfOk, IfErr, sym, refl, ap, ◌∙◌, subst, inl, inr, arith}
 use Rattle.std.specs.Str.{bytes_eq}
 use Rattle.std.proofs.lemmas.List.FromFn.{length-map-range_with_len}
 use Rattle.canonical.specs.Kinds.{Value}
@@ -27,8 +27,8 @@ use Rattle.checker.specs.declared.state.State.{State}
 use Rattle.checker.specs.declared.state.State.TheVariants.{Pending, Taken, Settled}
 use Rattle.sink.specs.Write as sinks
 use Rattle.store_path.specs.Base32.{base32, character}
-use Rattle.checker.specs.Calls.{Kind, D, Paths, own as own_needed, fixed, masked, HasHash, HasOutput}
-use Rattle.checker.specs.Locating.{path_length, of_fixed as by_fixed, of_masked as by_masked, KeptHashes, FileLocated, LocatedIfRead, path_name, PathRefused}
+use Rattle.checker.specs.Calls.{Kind, D, Put, Paths, own as own_needed, fixed, masked, HasHash, HasOutput}
+use Rattle.checker.specs.Locating.{path_length, of_fixed as by_fixed, of_masked as by_masked, KeptHashes, PathPut, OwnLocated, OutputLocated, FileLocated, LocatedIfRead, path_name, PathRefused}
 use Rattle.checker.specs.Soundness.{SoundView}
 use Rattle.checker.specs.Views.{View, Open, files, path_at, Exists, HashedAt}
 use Rattle.checker.specs.declared.refused.CallRefusal.{CallRefusal}
@@ -59,6 +59,24 @@ module _ (set : Files) (d : Bytes → Bytes) (p : Bytes) where
   right_long m e (own n f x) = own_long x
   right_long m e {q = q} (output n f y g h i l x) =
       subst (λ (w : Meaning). length q ≡ path_length (output_name p (get_or w.0 i no_output).0)) (one_meaning set p n m f e) (output_long x)
+
+-- ---- what is written: where there is an answer, a whole text from the buffer's start
+
+put_written : (long : ℕ) (Is : Bytes → sinks.Meaning → Type 0) (out : List ℕ) (before : sinks.Meaning) (r : Result ℕ CallRefusal) (after : List ℕ) (sink : sinks.Meaning)
+    → PathPut long Is out before r after sink → IfOk r (λ n. (q : List ℕ) × Put q out n after)
+put_written long Is out before (Ok n) after sink (q, is, put) = (q, put)
+put_written long Is out before (Err e) after sink w = tt
+
+pub path_written : (kind : Kind) (v : View) (p t : Bytes) (j : ℕ) (out : List ℕ) (before : sinks.Meaning) (r : Result ℕ CallRefusal) (after : List ℕ) (sink : sinks.Meaning)
+    → LocatedIfRead kind v p t j out before r after sink → IfOk r (λ n. (q : List ℕ) × Put q out n after)
+path_written kind v p t j out before (Err e) after sink w = tt
+path_written kind v p t zero out before (Ok n) after sink (inl (m, reads, w)) =
+    put_written (path_length (file_name p)) (OwnLocated kind p m before) out before (Ok n) after sink w
+path_written kind v p t (suc i) out before (Ok n) after sink (inl (m, reads, inl (less, w))) =
+    let o = get_or m.0 i no_output in
+    put_written (path_length (output_name p o.0)) (OutputLocated kind v p m o before) out before (Ok n) after sink w
+path_written kind v p t (suc i) out before (Ok n) after sink (inl (m, reads, inr (more, is, same, stays))) = absurd (cc)
+path_written kind v p t j out before (Ok n) after sink (inr (none, is, same, stays)) = absurd (cc)
 
 -- ---- a refusal
 

@@ -1,5 +1,5 @@
 -- A list of calls of a run, one more call at a time; and that it is a run of their events.
-use Rattle.std.proofs.Common.{◌≡◌, ℕ, suc, ◌+◌, ◌<◌, min, List, [], ◌∷◌, ◌++◌, length, get_or, take, drop, set, map, Some, Ok, Err, Option, Result, sym, refl, ap, ◌∙◌, subst, arith}
+use Rattle.std.proofs.Common.{◌≡◌, ℕ, suc, ◌+◌, ◌^◌, ◌<◌, min, List, [], ◌∷◌, ◌++◌, length, get_or, take, drop, set, map, Some, Ok, Err, Option, Result, sym, refl, ap, ◌∙◌, subst, arith}
 use Rattle.std.specs.List.{AllByRecursion}
 use Rattle.std.proofs.lemmas.List.{take_more, drop_more, length-take-le, length-map, set_at, map_push, append_assoc}
 use Rattle.hash_modulo.specs.Sets.{Bytes}
@@ -9,18 +9,19 @@ use Rattle.sink.specs.Write.{Held}
 use Rattle.checker.specs.Calls.{Kind}
 use Rattle.checker.specs.Events.{Event, Runs}
 use Rattle.checker.specs.Opened.{OpensSet}
-use Rattle.checker.specs.Playing.{NotOpenedAt, last_taken, Values, stage, Turn, Turned, Plays, Played, RunDone}
+use Rattle.checker.specs.Playing.{NotOpenedAt, last_taken, Values, stage, DigestsIn, Turn, Turned, Plays, Played, RunDone}
 use Rattle.checker.specs.Seen.{view_of, view_none}
 use Rattle.checker.specs.Soundness.{SoundView}
 use Rattle.checker.specs.Theorem.{Right}
-use Rattle.checker.specs.Views.{View, Exists, fresh}
+use Rattle.checker.specs.Views.{View, fresh}
 use Rattle.checker.specs.declared.call.Answer.{Answer}
 use Rattle.checker.specs.declared.call.Call.{Call}
 use Rattle.checker.specs.declared.checker.Checker.{Checker}
 use Rattle.checker.specs.declared.refused.OpenRefusal.{OpenRefusal}
 use Rattle.checker.specs.declared.refused.OpenRefusal.TheVariants.{AlreadyOpen, Image}
 use Rattle.checker.proofs.Closed.{closed_plays, not_open}
-use Rattle.checker.proofs.Keeping.{fresh_sound}
+use Rattle.checker.proofs.Keeping.{none_sound, fresh_sound}
+use Rattle.checker.proofs.Rising.{totals_rise}
 use Rattle.checker.proofs.Steps.{sound_steps}
 use Rattle.checker.proofs.Telling.{run_theorem}
 
@@ -113,47 +114,50 @@ module _ {S : Type 0} (held : S → Held) (kind : Kind) where
 
   -- ---- from a checker that was opened, or not
 
-  no_file : (k : ℕ) → Exists view_none k → ⊥
-  no_file k x = omega (arith, x.0, x.1)
-
-  none_sound : (v : View) → v ≡ view_none → SoundView kind v
-  none_sound v e = subst (SoundView kind) (sym e) (record {
-    right = λ k s x q. absurd (no_file k x);
-    one = λ j k a b. absurd (no_file j a.exists);
-    held = λ k a. absurd (no_file k a.exists);
-    inputs = λ k h a. absurd (no_file k a.exists);
-  })
-
   pub first_sound : (img : Bytes) (r : Result (Unit {0}) OpenRefusal) (v : View) → OpensSet view_none img r v → SoundView kind v
   first_sound img (Ok u) v (q, (n, o, e)) = subst (SoundView kind) (sym e) (fresh_sound kind img n)
-  first_sound img (Err f) v (q, e) = none_sound v e
+  first_sound img (Err f) v (q, e) = none_sound kind v e
 
   is_fresh : (img : Bytes) (r : Result (Unit {0}) OpenRefusal) (v : View) → OpensSet view_none img r v → (n : ℕ) → Opens img n → v ≡ fresh img n
   is_fresh img (Ok u) v (q, (m, o, e)) n opens = e ∙ ap (fresh img) (let same = one_answer img (Ok m) (Ok n) o opens in cc)
   is_fresh img (Err (Image f)) v ((q, r), e) n opens = absurd (let same = one_answer img (Err f) (Ok n) r opens in cc)
   is_fresh img (Err AlreadyOpen) v (o, e) n opens = absurd (cc)
 
+  -- a run from a newly opened checker on
+  fresh_runs : (img : Bytes) (r : Result (Unit {0}) OpenRefusal) (calls : List Call) (answers answered : List (Option Answer)) (count : ℕ) (x z : Values held)
+      → OpensSet view_none img r (view_of x.checker) → (p : Played held kind calls answers x count answered z) → (n : ℕ) → Opens img n
+      → Runs kind (record { view = fresh img n; sink = (held x.sink).meaning; buffer = x.buffer }) p.events (stage held z)
+  fresh_runs img r calls answers answered count x z o p n opens =
+      subst (λ (v : View). Runs kind (record { view = v; sink = (held x.sink).meaning; buffer = x.buffer }) p.events (stage held z)) (is_fresh img r (view_of x.checker) o n opens)
+      (plays_runs 0 (take count calls) p.given p.events x z p.plays)
+
+  rise_run : (img : Bytes) (r : Result (Unit {0}) OpenRefusal) (calls : List Call) (answers answered : List (Option Answer)) (count : ℕ) (x z : Values held)
+      → (held x.sink).meaning.total < 2 ^ 64 → OpensSet view_none img r (view_of x.checker) → (p : Played held kind calls answers x count answered z)
+      → (n : ℕ) → Opens img n → DigestsIn held kind img n p.events x.sink z.sink
+  rise_run img r calls answers answered count x z low o p n opens =
+      totals_rise kind (record { view = fresh img n; sink = (held x.sink).meaning; buffer = x.buffer }) (stage held z) p.events low
+      (fresh_runs img r calls answers answered count x z o p n opens)
+
   pub right_run : (img : Bytes) (r : Result (Unit {0}) OpenRefusal) (calls : List Call) (answers answered : List (Option Answer)) (count : ℕ) (x z : Values held)
       → OpensSet view_none img r (view_of x.checker) → (p : Played held kind calls answers x count answered z)
-      → (n : ℕ) → Opens img n → Right kind img n p.events (stage held z)
+      → (n : ℕ) → Opens img n → Right kind img n p.events (view_of z.checker)
   right_run img r calls answers answered count x z o p n opens =
-      run_theorem kind img n opens (held x.sink).meaning x.buffer p.events (stage held z)
-      (subst (λ (v : View). Runs kind (record { view = v; sink = (held x.sink).meaning; buffer = x.buffer }) p.events (stage held z)) (is_fresh img r (view_of x.checker) o n opens)
-      (plays_runs 0 (take count calls) p.given p.events x z p.plays))
+      run_theorem kind img n opens (held x.sink).meaning x.buffer p.events (stage held z) (fresh_runs img r calls answers answered count x z o p n opens)
 
   -- a run, from what opening answered and what was played then
   pub run_done : (img : Bytes) (calls : List Call) (answers answered : List (Option Answer)) (sink after : S) (buffer rest : List ℕ) (r : Result (Unit {0}) OpenRefusal) (count : ℕ)
-      (blank first final : Checker) → view_of blank ≡ view_none → OpensSet (view_of blank) img r (view_of first)
+      (blank first final : Checker) → ((s : S) → (held s).meaning.total < 2 ^ 64) → view_of blank ≡ view_none → OpensSet (view_of blank) img r (view_of first)
       → (SoundView kind (view_of first)
       → Played held kind calls answers (record { checker = first; sink = sink; buffer = buffer }) count answered (record { checker = final; sink = after; buffer = rest }))
       → RunDone held kind img calls answers sink buffer (record { opened = r; count = count }) answered after rest
-  run_done img calls answers answered sink after buffer rest r count blank first final none o p = record {
+  run_done img calls answers answered sink after buffer rest r count blank first final wraps none o p = record {
     first = first;
     opens = opens;
     final = final;
     played = all;
     closed = λ e q. stays all.events (closed_plays held kind 0 (take count calls) all.given all.events before behind (not_open img r e (view_of first) q opens) all.plays);
-    right = right_run img r calls answers answered count (record { checker = first; sink = sink; buffer = buffer }) (record { checker = final; sink = after; buffer = rest }) opens all;
+    right = right_run img r calls answers answered count before behind opens all;
+    rise = rise_run img r calls answers answered count before behind (wraps sink) opens all;
   }
     where
       before : Values held

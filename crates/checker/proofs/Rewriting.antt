@@ -14,7 +14,7 @@ use Rattle.verdict.specs.declared.fault.Fault.TheVariants.{NotCanonical}
 use Rattle.verdict.specs.Verdicts.{Verdict}
 use Rattle.verdict.proofs.Texts.{differ_not}
 use Rattle.checker.specs.Calls.{D, Put, Rewrites}
-use Rattle.checker.specs.Theorem.{RewrittenAlike, RewrittenAgain}
+use Rattle.checker.specs.Theorem.{RewrittenAlike, RewrittenAgain, CanonicalAgain}
 use Rattle.checker.specs.Views.{View, files, path_at}
 use Rattle.checker.specs.declared.refused.CallRefusal.TheVariants.{NotRead}
 
@@ -72,8 +72,8 @@ carried : (p q text written : Bytes) (m : Meaning) → Reads p text m → q ≡ 
 carried p q text written m r path same =
     subst (λ (t : Bytes). Reads q t m) (sym same) (subst (λ (b : Bytes). Reads b (canonical m) m) (sym path) (reads_again p text m r))
 
-pub rewritten_again : RewrittenAgain
-rewritten_again kind v w j k m opens exists means path same =
+pub canonical_again : CanonicalAgain
+canonical_again kind v w j k m opens exists means path same =
     let here : Means (files w) (path_at w k) m =
     record {
       text = file_text w.image k;
@@ -86,3 +86,7 @@ rewritten_again kind v w j k m opens exists means path same =
       itself = λ out n after r. let x = rewritten w k m here out n after r in (x.0 ∙ ap length (sym same), x.1 ∙ sym same);
       canonical_already = λ place judged. never_24 (files w) (D kind) (path_at w k) m here same _ place refl judged;
     }
+
+pub rewritten_again : RewrittenAgain
+rewritten_again kind v w j k opens exists out a after (m, o, x, means, put) path same =
+    canonical_again kind v w j k m opens exists means path (same ∙ put_front (canonical m) out a after put)

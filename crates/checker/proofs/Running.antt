@@ -7,7 +7,7 @@ use Rattle.image.specs.Layout.{file_path}
 use Rattle.links.specs.Sets.{set_of}
 use Rattle.sink.specs.Write as sinks
 use Rattle.checker.specs.Calls.{Kind, Takes, Outcome, with_hash, without, Decides, Settles, PutsBack}
-use Rattle.checker.specs.Events.{Event, took, settled, returned, told, located, rewritten, circled, lined, tailed, Stage, Happens, Runs}
+use Rattle.checker.specs.Events.{Event, took, settled, returned, told, located, rewritten, circled, lined, tailed, Stage, Happens, Leads}
 use Rattle.checker.specs.Soundness.{SoundView}
 use Rattle.checker.specs.Theorem.{CountRight, hashed, unhashed, settles, counted, Total, Distinct}
 use Rattle.checker.specs.Views.{View, files, path_at, Changes}
@@ -184,9 +184,13 @@ module _ (kind : Kind) (img : Bytes) (n : ℕ) where
       subst (λ (ks : List ℕ). Gains v ks (counted (e ∷ es)) w) (sym (f es))
       (subst (λ (c : ℕ). Gains v (k ∷ settles es) c w) (sym (q es)) (settle_gains v u w k m s (settles es) (counted es) right taken ch g))
 
-  pub ran : (es : List Event) (s t : Stage) → Runs kind s es t → Of s.view → SoundView kind s.view → Ran s.view es t.view
-  ran [] s t same a sound = subst (λ (x : Stage). Ran s.view [] x.view) (sym same) (record { is = a; sound = sound; gains = no_gain s.view })
-  ran (e ∷ es) s t (u, h, more) a sound =
-      let one = step e s u h a sound in
-      let rest = ran es u t more one.is one.sound in
-      record { is = rest.is; sound = rest.sound; gains = way_gains s.view u.view t.view e es one.way rest.gains }
+  -- a call from the view v on
+  step_from : (e : Event) (v : View) (s t : Stage) → s.view ≡ v → Happens kind s e t → Of v → SoundView kind v → Step v e t.view
+  step_from e v s t from h a sound = subst (λ (x : View). Step x e t.view) from (step e s t h (subst Of (sym from) a) (subst (SoundView kind) (sym from) sound))
+
+  pub ran : (es : List Event) (v w : View) → Leads kind v es w → Of v → SoundView kind v → Ran v es w
+  ran [] v w same a sound = subst (Ran v []) (sym same) (record { is = a; sound = sound; gains = no_gain v })
+  ran (e ∷ es) v w (s, from, t, h, more) a sound =
+      let one = step_from e v s t from h a sound in
+      let rest = ran es t.view w more one.is one.sound in
+      record { is = rest.is; sound = rest.sound; gains = way_gains v t.view w e es one.way rest.gains }

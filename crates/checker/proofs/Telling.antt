@@ -1,5 +1,5 @@
 -- Every list of calls from a newly opened checker on has right answers, settles no file twice, and its counts add up.
-use Rattle.std.proofs.Common.{◌≡◌, ℕ, zero, suc, ◌+◌, ◌≤◌, ◌⊎◌, List, [], ◌∷◌, ◌++◌, Some, None, Ok, Err, Option, Result, sym, refl, ◌∙◌, subst, inl, inr, arith}
+use Rattle.std.proofs.Common.{◌≡◌, ℕ, zero, suc, ◌+◌, ◌≤◌, ◌⊎◌, List, [], ◌∷◌, ◌++◌, Some, None, Ok, Err, Option, Result, sym, refl, ap, ◌∙◌, subst, inl, inr, arith}
 use Rattle.canonical.specs.Meanings.{canonical}
 use Rattle.canonical.specs.Order.{Member}
 use Rattle.derivation.specs.declared.spot.Spot.{Spot}
@@ -20,9 +20,9 @@ use Rattle.verdict.specs.declared.fault.Fault.TheVariants.{Unhashed}
 use Rattle.verdict.proofs.Exactly.{accepted_exactly}
 use Rattle.verdict.proofs.One.{one_verdict}
 use Rattle.checker.specs.Calls.{Kind, D, Put, TakeRefused, Takes, Settles, PutsBack, Tells, file_line, Lines, one_accepted, accepted, summary, Tails, Rewrites, Paths, Circles}
-use Rattle.checker.specs.Events.{Event, took, settled, returned, told, located, rewritten, circled, lined, tailed, Stage, Happens, Runs}
+use Rattle.checker.specs.Events.{Event, took, settled, returned, told, located, rewritten, circled, lined, tailed, Stage, Happens, Runs, Leads}
 use Rattle.checker.specs.Soundness.{RowRight, SoundView}
-use Rattle.checker.specs.Theorem.{VerdictRight, settles, Numbered, ToldRight, Wrote, AcceptedBy, HowMany, no_files, one_more, no_more, EventRight, AnswersRight, Right, RunTheorem}
+use Rattle.checker.specs.Theorem.{VerdictRight, settles, Numbered, ToldRight, Wrote, AcceptedBy, HowMany, no_files, one_more, no_more, EventRight, AnswersRight, Right, ClientTheorem, RunTheorem}
 use Rattle.checker.specs.Views as views
 use Rattle.checker.specs.Views.{View, fresh, Exists, PendingAt, TakenAt}
 use Rattle.checker.specs.declared.call.Window.{Window}
@@ -74,9 +74,14 @@ same_told : (v w : Verdict) → Some w ≡ Some v → v ≡ w
 same_told v w e = cc
 
 -- a list of calls and one call more
-runs_on : (kind : Kind) (before : List Event) (e : Event) (s t u : Stage) → Runs kind s before t → Happens kind t e u → Runs kind s (before ++ (e ∷ [])) u
-runs_on kind [] e s t u same h = (u, subst (λ (x : Stage). Happens kind x e u) same h, refl)
-runs_on kind (f ∷ before) e s t u (r, g, more) h = (r, g, runs_on kind before e r t u more h)
+leads_on : (kind : Kind) (before : List Event) (e : Event) (v : View) (s t : Stage) → Leads kind v before s.view → Happens kind s e t → Leads kind v (before ++ (e ∷ [])) t.view
+leads_on kind [] e v s t same h = (s, same, t, h, refl)
+leads_on kind (f ∷ before) e v s t (r, from, u, g, more) h = (r, from, u, g, leads_on kind before e u.view s t more h)
+
+-- a run leads from its first view to its last
+runs_lead : (kind : Kind) (es : List Event) (s t : Stage) → Runs kind s es t → Leads kind s.view es t.view
+runs_lead kind [] s t same = ap (λ (x : Stage). x.view) same
+runs_lead kind (e ∷ es) s t (u, h, more) = (s, refl, u, h, runs_lead kind es u t more)
 
 wrote : (text out after : List ℕ) (count : ℕ) → Put text out count after → Wrote text after count
 wrote text out after count p = (p.count, put_front text out count after p)
@@ -223,49 +228,52 @@ module _ (kind : Kind) (img : Bytes) (n : ℕ) (fin : Finite (set_of img n)) whe
   -- ---- what a list of calls answers
 
   -- from a view with no settled file on
-  module _ (start : Stage) (a : Of kind img n start.view) (sound : SoundView kind start.view) (none : (k : ℕ) → SettledAt start.view k → ⊥) where
-    known_by : (before : List Event) (s : Stage) → Ran kind img n start.view before s.view → Known before s.view
-    known_by before s r = record {
+  module _ (start : View) (a : Of kind img n start) (sound : SoundView kind start) (none : (k : ℕ) → SettledAt start k → ⊥) where
+    known_by : (before : List Event) (v : View) → Ran kind img n start before v → Known before v
+    known_by before v r = record {
       there = λ k i. (r.gains.new k i).0;
       back = λ k z. elim (r.gains.all k z) [ inl y ↦ absurd (none k y) | inr i ↦ i ];
     }
 
-    answers_right : (before es : List Event) (s t : Stage) → Runs kind start before s → Runs kind s es t → AnswersRight kind img n before es
-    answers_right before [] s t r more = tt
-    answers_right before (e ∷ es) s t r (u, h, more) =
-        let so_far = ran kind img n before start s r a sound in (
-          event_right e s u h so_far.is so_far.sound before (known_by before s so_far),
-          answers_right (before ++ (e ∷ [])) es u t (runs_on kind before e start s u r h) more,
+    answers_right : (before es : List Event) (v w : View) → Leads kind start before v → Leads kind v es w → AnswersRight kind img n before es
+    answers_right before [] v w r more = tt
+    answers_right before (e ∷ es) v w r (s, from, t, h, more) =
+        let here : Leads kind start before s.view = subst (Leads kind start before) (sym from) r in
+        let so_far = ran kind img n before start s.view here a sound in (
+          event_right e s t h so_far.is so_far.sound before (known_by before s.view so_far),
+          answers_right (before ++ (e ∷ [])) es t.view w (leads_on kind before e start s t here h) more,
         )
 
   row_of : (w : View) → Of kind img n w → SoundView kind w → (k : ℕ) (s : Settlement) → 1 ≤ k → k ≤ n → w.row k ≡ Settled s → RowRight kind (set_of img n) (file_path img k) s
   row_of w a sound k s from to e =
       over kind img n (λ i m. RowRight kind (set_of i m) (file_path i k) s) w a (sound.right k s (from, subst (λ (m : ℕ). k ≤ m) (sym a.count) to) e)
 
-  all_right : (start t : Stage) → Of kind img n start.view → SoundView kind start.view → ((k : ℕ) → SettledAt start.view k → ⊥)
-      → ((k : ℕ) → TakenAt start.view k → ⊥) → (es : List Event) → Runs kind start es t → Right kind img n es t
-  all_right start t a sound none idle es runs =
-      let r = ran kind img n es start t runs a sound in
-      let known = known_by start a sound none es t r in
+  all_right : (start w : View) → Of kind img n start → SoundView kind start → ((k : ℕ) → SettledAt start k → ⊥)
+      → ((k : ℕ) → TakenAt start k → ⊥) → (es : List Event) → Leads kind start es w → Right kind img n es w
+  all_right start w a sound none idle es leads =
+      let r = ran kind img n es start w leads a sound in
+      let known = known_by start a sound none es w r in
       record {
-        answers = answers_right start a sound none [] es start t refl runs;
+        answers = answers_right start a sound none [] es start w refl leads;
         opened = r.is.opened;
         image = r.is.image;
         count = r.is.count;
-        verdicts = λ k s from to e. verdict_right kind (set_of img n) fin (file_path img k) s.verdict (row_of t.view r.is r.sound k s from to e).verdict;
-        hashes = λ k s from to e. hashes_right kind (set_of img n) fin (file_path img k) s (row_of t.view r.is r.sound k s from to e);
-        are = λ k s h from to e f. let row = row_of t.view r.is r.sound k s from to e in (row.hash h f, row.masked h f);
+        verdicts = λ k s from to e. verdict_right kind (set_of img n) fin (file_path img k) s.verdict (row_of w r.is r.sound k s from to e).verdict;
+        hashes = λ k s from to e. hashes_right kind (set_of img n) fin (file_path img k) s (row_of w r.is r.sound k s from to e);
+        are = λ k s h from to e f. let row = row_of w r.is r.sound k s from to e in (row.hash h f, row.masked h f);
         exactly = λ k from to. (known.there k, known.back k);
         once = r.gains.once;
         total = r.gains.total;
-        phases = λ k from to. phase_after kind start t es k (from, subst (λ (m : ℕ). k ≤ m) (sym r.is.count) to) runs (idle k) (known.there k) (known.back k);
+        phases = λ k from to. phase_after kind start w es k (from, subst (λ (m : ℕ). k ≤ m) (sym r.is.count) to) leads (idle k) (known.there k) (known.back k);
         one = r.sound.one;
         sound = r.sound;
       }
 
+pub client_theorem : ClientTheorem
+client_theorem kind img n opens es w leads =
+    let is : Of kind img n (fresh img n) = record { opened = refl; image = refl; count = refl } in
+    all_right kind img n (set_finite img n opens) (fresh img n) w is (fresh_sound kind img n) (λ k z. not_settled Pending z.0 refl z.1) (λ k z. not_taken Pending refl z.is) es leads
+
 pub run_theorem : RunTheorem
 run_theorem kind img n opens sink buffer es t runs =
-    let fin = set_finite img n opens in
-    let start : Stage = record { view = fresh img n; sink = sink; buffer = buffer } in
-    let is : Of kind img n start.view = record { opened = refl; image = refl; count = refl } in
-    all_right kind img n fin start t is (fresh_sound kind img n) (λ k z. not_settled Pending z.0 refl z.1) (λ k z. not_taken Pending refl z.is) es runs
+    client_theorem kind img n opens es t.view (runs_lead kind es (record { view = fresh img n; sink = sink; buffer = buffer }) t runs)

@@ -19,9 +19,9 @@ use Rattle.checker.specs.Calls.{Kind, Tells}
 use Rattle.checker.specs.Events.{Event, took, settled, returned, told, located, rewritten, circled, lined, tailed, Stage, Happens}
 use Rattle.checker.specs.Opened.{open_number, open_slot, OpenRefused, OpensSet}
 use Rattle.checker.specs.Playing.{offered, last_taken, Fits, Values, stage, Turn, Plays, RunDone}
-use Rattle.checker.specs.Reports.{rounds_then, verdicts_from, report_calls, told_by, verdicts_in, report_text, AllJudged, refused, judged, Reported}
+use Rattle.checker.specs.Reports.{rounds_then, verdicts_from, report_calls, told_by, verdicts_in, report_text, AllJudged, files_to, AllDigested, refused, judged, Reported}
 use Rattle.checker.specs.Seen.{view_of, view_none}
-use Rattle.checker.specs.Theorem.{VerdictRight}
+use Rattle.checker.specs.Theorem.{VerdictRight, settles, counted, Total}
 use Rattle.checker.specs.Views as views
 use Rattle.checker.specs.Views.{View, fresh, Open, Exists}
 use Rattle.checker.specs.declared.call.Answer.{Answer}
@@ -41,6 +41,7 @@ use Rattle.checker.proofs.Keeping.{clash, not_taken}
 use Rattle.checker.proofs.Reporting.{tells_more, tells_none}
 use Rattle.checker.proofs.Rounds.{left, left_few, all_settled, Calm, Round, round}
 use Rattle.checker.proofs.Running.{SettledAt}
+use Rattle.checker.proofs.Totals.{in_order, numbered, rounds_none, verdicts_none, rise_counted}
 
 -- ---- which event a call is
 
@@ -250,19 +251,57 @@ module _ {S : Type 0} (held : S → Held) (kind : Kind) where
   fresh_calm : (img : Bytes) (n : ℕ) → Calm (fresh img n)
   fresh_calm img n = record { opened = refl; free = λ k t. not_taken _ refl t.is }
 
+  -- there is room for the answers of all these calls, so that all are made
+  all_made : (img : Bytes) (answers answered : List (Option Answer)) (sink sink_after : S) (buffer buffer_after : List ℕ) (r : Ran)
+      → RunDone held kind img report_calls answers sink buffer r answered sink_after buffer_after → length answers ≡ 768 → r.count ≡ 768
+  all_made img answers answered sink sink_after buffer buffer_after r run long = run.played.is ∙ ap (λ (k : ℕ). min 768 k) long
+
+  all_play : (img : Bytes) (answers answered : List (Option Answer)) (sink sink_after : S) (buffer buffer_after : List ℕ) (r : Ran)
+      → (run : RunDone held kind img report_calls answers sink buffer r answered sink_after buffer_after) → length answers ≡ 768
+      → Plays held kind 0 report_calls run.played.given run.played.events
+      (record { checker = run.first; sink = sink; buffer = buffer }) (record { checker = run.final; sink = sink_after; buffer = buffer_after })
+  all_play img answers answered sink sink_after buffer buffer_after r run long =
+      subst (λ (k : ℕ). Plays held kind 0 (take k report_calls) run.played.given run.played.events
+      (record { checker = run.first; sink = sink; buffer = buffer }) (record { checker = run.final; sink = sink_after; buffer = buffer_after }))
+      (all_made img answers answered sink sink_after buffer buffer_after r run long) run.played.plays
+
+  all_told : (img : Bytes) (answers answered : List (Option Answer)) (sink sink_after : S) (buffer buffer_after : List ℕ) (r : Ran)
+      → (run : RunDone held kind img report_calls answers sink buffer r answered sink_after buffer_after) → length answers ≡ 768 → (x : Unit {0}) → r.opened ≡ Ok x
+      → (n : ℕ) × Opens img n × ((view_of run.final).count ≡ n) × AllTold (view_of run.final) 1 (verdicts_in (map Some (drop 512 run.played.given)))
+  all_told img answers answered sink sink_after buffer buffer_after r run long x is =
+      let (not, (n, opens, first)) = subst (λ (o : Result (Unit {0}) OpenRefusal). OpensSet view_none img o (view_of run.first)) is run.opens in
+      let (same, tells) = told_after (fresh img n) 256 run.played.given run.played.events (record { checker = run.first; sink = sink; buffer = buffer })
+      (record { checker = run.final; sink = sink_after; buffer = buffer_after }) first (fresh_calm img n) (few_files img n opens)
+      (all_play img answers answered sink sink_after buffer buffer_after r run long) in
+      (n, opens, same, tells)
+
+  -- what is digested in a run of these calls is what is digested for all files
+  pub all_digested : (img : Bytes) (answers answered : List (Option Answer)) (sink sink_after : S) (buffer buffer_after : List ℕ) (r : Ran)
+      → RunDone held kind img report_calls answers sink buffer r answered sink_after buffer_after → length answers ≡ 768 → (x : Unit {0}) → r.opened ≡ Ok x
+      → (n : ℕ) → Opens img n → AllDigested kind img n (held sink).meaning (held sink_after).meaning
+  all_digested img answers answered sink sink_after buffer buffer_after r run long x is n opens =
+      let (m, also, count, tells) = all_told img answers answered sink sink_after buffer buffer_after r run long x is in
+      let right = run.right n opens in
+      let few : (view_of run.final).count ≡ n = right.count in
+      let (rise, digests, total) = run.rise n opens in
+      let es = run.played.events in
+      let sum : rise ≡ counted es
+      = rise_counted kind img n held 0 report_calls run.played.given es _ _ rise (rounds_none 256 (verdicts_from 1 256) (verdicts_none 1 256))
+      (all_play img answers answered sink sink_after buffer buffer_after r run long) digests in (
+        rise,
+        subst (Total kind img n (files_to n)) (sym sum) (in_order kind img n n (counted es) (settles es) right.once (numbered kind img n [] es right.answers)
+            (λ k q. let (s, f, w) = tells.each k q.0 (omega (arith, q.1, few)) in (right.exactly k q.0 q.1).1 (s, f)) right.total),
+        total,
+      )
+
   -- the answers of a run of these calls tell the verdicts of all files
   pub all_judged : (img : Bytes) (answers answered : List (Option Answer)) (sink sink_after : S) (buffer buffer_after : List ℕ) (r : Ran)
       → RunDone held kind img report_calls answers sink buffer r answered sink_after buffer_after → length answers ≡ 768 → (x : Unit {0}) → r.opened ≡ Ok x
       → (n : ℕ) × Opens img n × AllJudged kind img n (verdicts_in (drop 512 answered))
   all_judged img answers answered sink sink_after buffer buffer_after r run long x is =
-      let (not, (n, opens, first)) = subst (λ (o : Result (Unit {0}) OpenRefusal). OpensSet view_none img o (view_of run.first)) is run.opens in
       let given = run.played.given in
-      let count : r.count ≡ 768 = run.played.is ∙ ap (λ (k : ℕ). min 768 k) long in
-      let begin : Values held = record { checker = run.first; sink = sink; buffer = buffer } in
-      let end : Values held = record { checker = run.final; sink = sink_after; buffer = buffer_after } in
-      let plays : Plays held kind 0 report_calls given run.played.events begin end
-      = subst (λ (k : ℕ). Plays held kind 0 (take k report_calls) given run.played.events begin end) count run.played.plays in
-      let (same, tells) = told_after (fresh img n) 256 given run.played.events begin end first (fresh_calm img n) (few_files img n opens) plays in
+      let count = all_made img answers answered sink sink_after buffer buffer_after r run long in
+      let (n, opens, same, tells) = all_told img answers answered sink sink_after buffer buffer_after r run long x is in
       let whole : answered ≡ map Some given
       = run.played.are ∙ (ap (λ (l : List (Option Answer)). map Some given ++ l) (drop_all r.count answers (omega (arith, count, long))) ∙ append-nil (map Some given)) in
       let front : drop 512 answered ≡ map Some (drop 512 given) = ap (λ (l : List (Option Answer)). drop 512 l) whole ∙ drop-map (λ (a : Answer). Some a) 512 given in (
@@ -303,6 +342,21 @@ module _ {S : Type 0} {held : S → Held} {kind : Kind} {img : Bytes} {cs : List
         by_refusal : (e : OpenRefusal) → OpenRefused view_none img e → Writes f h (refused_text (open_number e) (open_slot e)) r k → Reported f h kind img r k
         by_refusal AlreadyOpen was written = absurd (not_open was)
         by_refusal (Image e) was written = (refused_text (open_number (Image e)) (open_slot (Image e)), refused e was.1 refl, written)
+
+  -- what is digested where the image opened
+  pub digest_sums : {x : Unit {0}} → ran.opened ≡ Ok x → cs ≡ report_calls → length answers ≡ 768
+      → (n : ℕ) → Opens img n → AllDigested kind img n (held sink).meaning (held sink_after).meaning
+  digest_sums {x} is asked long =
+      all_digested held kind img answers answered sink sink_after buffer buffer_after ran
+      (subst (λ (cs : List Call). RunDone held kind img cs answers sink buffer ran answered sink_after buffer_after) asked run) long x is
+
+  -- an image that opens is not refused
+  pub digest_refused : {e : OpenRefusal} → ran.opened ≡ Err e → (n : ℕ) → Opens img n → AllDigested kind img n (held sink).meaning (held sink_after).meaning
+  digest_refused {e} is n opens = by_refusal e (subst (λ (o : Result (Unit {0}) OpenRefusal). OpensSet view_none img o (view_of run.first)) is run.opens).0
+    where
+      by_refusal : (e : OpenRefusal) → OpenRefused view_none img e → AllDigested kind img n (held sink).meaning (held sink_after).meaning
+      by_refusal AlreadyOpen was = absurd (not_open was)
+      by_refusal (Image f) was = absurd (no_answer n f (one_answer img (Ok n) (Err f) opens was.1))
 
   -- the digest sink stays where the image is refused
   pub digest_stays : {e : OpenRefusal} → ran.opened ≡ Err e → sink_after ≡ sink

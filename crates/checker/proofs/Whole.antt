@@ -6,14 +6,15 @@ use Rattle.checker.proofs.Counting.{count_is_rise}
 use Rattle.checker.proofs.Keeping.{fresh_sound}
 use Rattle.checker.proofs.Opening.{some_opening, one_opening}
 use Rattle.checker.proofs.Playing.{every_list_runs}
-use Rattle.checker.proofs.Rewriting.{rewritten_alike, rewritten_again}
+use Rattle.checker.proofs.Rewriting.{rewritten_alike, rewritten_again, canonical_again}
 use Rattle.checker.proofs.Rising.{totals_rise}
 use Rattle.checker.proofs.Single.{one_call_answer}
 use Rattle.checker.proofs.Steps.{sound_steps, runs_split, totals_small}
-use Rattle.checker.proofs.Telling.{run_theorem}
+use Rattle.checker.proofs.Telling.{client_theorem, run_theorem}
 
 pub main_theorem : MainTheorem
 main_theorem = record {
+  client = client_theorem;
   right = run_theorem;
   fresh = fresh_sound;
   sound = sound_steps;
@@ -31,4 +32,5 @@ main_theorem = record {
   one = one_call_answer;
   alike = rewritten_alike;
   again = rewritten_again;
+  canonical = canonical_again;
 }

@@ -1,4 +1,4 @@
--- Lists of calls over one checker, one sink and one buffer: what one call leaves the next finds.
+-- Lists of calls over one checker: what one call leaves of it the next finds. In a run one sink and one buffer go from call to call as well.
 -- Source: this project's own rule (docs/CALLS.md, "Runs").
 use Rattle.std.specs.Prelude.{◌≡◌, ℕ, ◌+◌, List, [], ◌∷◌, ◌++◌, take, drop, Option, Result}
 use Rattle.std.specs.Result.{IsErr}
@@ -100,3 +100,8 @@ Happens kind s (tailed w out r) t = Tails s.view (part w s.buffer) r out × Writ
 abbrev pub Runs : Kind → Stage → List Event → Stage → Type 0
 Runs kind s [] t = t ≡ s
 Runs kind s (e ∷ es) t = (u : Stage) × Happens kind s e u × Runs kind u es t
+
+-- a list of calls leads from one view to another, whatever sink of the kind and whatever buffer each call is lent
+abbrev pub Leads : Kind → View → List Event → View → Type 0
+Leads kind v [] w = w ≡ v
+Leads kind v (e ∷ es) w = (s : Stage) × (s.view ≡ v) × (t : Stage) × Happens kind s e t × Leads kind t.view es w

@@ -1,15 +1,16 @@
 -- A list of calls over one checker, one sink and one buffer as they stand in the code: which event each call and its answer are, and that a
 -- refused one leaves all as it was.
 -- Source: this project's own rule (docs/CALLS.md, "Runs").
-use Rattle.std.specs.Prelude.{◌≡◌, ℕ, List, [], ◌∷◌, ◌++◌, take, drop, length, min, map, Some, Ok, Err, Option}
+use Rattle.std.specs.Prelude.{◌≡◌, ℕ, ◌+◌, ◌%◌, ◌^◌, List, [], ◌∷◌, ◌++◌, take, drop, length, min, map, Some, Ok, Err, Option}
 use Rattle.std.specs.List.{AllByRecursion}
+use Rattle.hash_modulo.specs.Sets.{Bytes}
 use Rattle.image.specs.Opening.{Opens}
 use Rattle.sink.specs.Write.{Held}
 use Rattle.checker.specs.Calls.{Kind}
 use Rattle.checker.specs.Events.{Event, took, settled, returned, told, located, rewritten, circled, lined, tailed, Refused, Stage, Happens}
 use Rattle.checker.specs.Opened.{OpensSet}
 use Rattle.checker.specs.Seen.{view_of, view_none}
-use Rattle.checker.specs.Theorem.{Right}
+use Rattle.checker.specs.Theorem.{Rise, Right}
 use Rattle.checker.specs.declared.call.Answer.{Answer}
 use Rattle.checker.specs.declared.call.Answer.TheVariants as answers
 use Rattle.checker.specs.declared.call.Call.{Call}
@@ -74,11 +75,35 @@ module _ {S : Type 0} (held : S → Held) where
   abbrev pub stage : Values → Stage
   stage x = record { view = view_of x.checker; sink = (held x.sink).meaning; buffer = x.buffer }
 
+  -- from one sink to the next the total rises by r, modulo 2 ^ 64
+  abbrev pub RisesBy : ℕ → S → S → Type 0
+  RisesBy r a b = (held b).meaning.total ≡ ((held a).meaning.total + r) % (2 ^ 64)
+
+  -- What a call does to the sink: a settle raises its total by what it counts, and of a path that is written `Paths` says it. Every other call
+  -- leaves the sink itself.
+  abbrev pub SinkAfter : Event → S → S → Type 0
+  SinkAfter (took r) a b = b ≡ a
+  SinkAfter (settled k (Ok n)) a b = RisesBy n a b
+  SinkAfter (settled k (Err e)) a b = b ≡ a
+  SinkAfter (returned k r) a b = b ≡ a
+  SinkAfter (told k r) a b = b ≡ a
+  SinkAfter (located k j w out (Ok n)) a b = Unit {0}
+  SinkAfter (located k j w out (Err e)) a b = b ≡ a
+  SinkAfter (rewritten k w out r) a b = b ≡ a
+  SinkAfter (circled r) a b = b ≡ a
+  SinkAfter (lined k w out r) a b = b ≡ a
+  SinkAfter (tailed w out r) a b = b ≡ a
+
+  -- along these calls over an image with n files the total rises by as many bytes as they digest
+  abbrev pub DigestsIn : Kind → Bytes → ℕ → List Event → S → S → Type 0
+  DigestsIn kind img n es a b = (r : ℕ) × Rise kind img n es r × RisesBy r a b
+
   -- a call, its answer and the event that they are: it happens, and a refused one leaves all as it was
   pub record Turn (kind : Kind) (last : ℕ) (c : Call) (a : Answer) (e : Event) (x y : Values) : Type 0 where
     pub fits : Fits last c a e
     pub happens : Happens kind (stage x) e (stage y)
     pub same : Refused e → y ≡ x
+    pub sink : SinkAfter e x.sink y.sink
 
   -- some event is that call with that answer, and `next` is the file that was taken last after it
   pub record Turned (kind : Kind) (last : ℕ) (c : Call) (a : Answer) (x : Values) (next : ℕ) (y : Values) : Type 0 where
@@ -104,7 +129,8 @@ module _ {S : Type 0} (held : S → Held) where
     pub are : answered ≡ map Some given ++ drop count answers
 
   -- What a run over an image does: it opens a checker, and plays the calls. Where the image does not open, every call is refused with 31, and
-  -- the sink and the buffer stay. Where it opens, every answer that is no refusal is the definition's.
+  -- the sink and the buffer stay. Where it opens, every answer that is no refusal is the definition's, and the sink's total rises by what is
+  -- digested.
   pub record RunDone (kind : Kind) (img : List ℕ) (calls : List Call) (answers : List (Option Answer)) (sink : S) (buffer : List ℕ)
       (r : Ran) (answered : List (Option Answer)) (sink_after : S) (buffer_after : List ℕ) : Type 0 where
     pub first : Checker
@@ -113,4 +139,5 @@ module _ {S : Type 0} (held : S → Held) where
     pub played : Played kind calls answers (record { checker = first; sink = sink; buffer = buffer }) r.count answered
         (record { checker = final; sink = sink_after; buffer = buffer_after })
     pub closed : (e : OpenRefusal) → r.opened ≡ Err e → AllByRecursion NotOpenedAt played.events × (sink_after ≡ sink) × (buffer_after ≡ buffer)
-    pub right : (n : ℕ) → Opens img n → Right kind img n played.events (stage (record { checker = final; sink = sink_after; buffer = buffer_after }))
+    pub right : (n : ℕ) → Opens img n → Right kind img n played.events (view_of final)
+    pub rise : (n : ℕ) → Opens img n → DigestsIn kind img n played.events sink sink_after

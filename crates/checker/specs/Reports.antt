@@ -1,7 +1,7 @@
 -- What the report of an image says: the line of its refusal, or a line a file with its verdict, and then the last line; and the calls by which
 -- the verdicts are had.
 -- Source: this project's own report (docs/FORMATS.md, "Report").
-use Rattle.std.specs.Prelude.{◌≡◌, ℕ, zero, suc, ◌-◌, ◌%◌, cond, nat_lt, ◌==◌, List, [], ◌∷◌, ◌++◌, length, Some, None, Ok, Err, Option, Result, slice_index_or}
+use Rattle.std.specs.Prelude.{◌≡◌, ℕ, zero, suc, ◌+◌, ◌-◌, ◌%◌, ◌^◌, cond, nat_lt, ◌==◌, List, [], ◌∷◌, ◌++◌, length, Some, None, Ok, Err, Option, Result, slice_index_or}
 use Rattle.hash_modulo.specs.Sets.{Bytes}
 use Rattle.image.specs.Layout.{file_path}
 use Rattle.image.specs.Opening.{Opens, Refused}
@@ -9,10 +9,11 @@ use Rattle.image.specs.declared.refusal.Refusal.{Refusal}
 use Rattle.links.specs.Sets.{set_of}
 use Rattle.report.specs.Texts.{line_text, tail_text, refused_text}
 use Rattle.sink.specs.Write.{Step, Held, Writes}
+use Rattle.sink.specs.Write as sinks
 use Rattle.verdict.specs.Verdicts.{Verdict, verdict_details}
 use Rattle.checker.specs.Calls.{Kind}
 use Rattle.checker.specs.Opened.{open_number, open_slot}
-use Rattle.checker.specs.Theorem.{VerdictRight, Numbered}
+use Rattle.checker.specs.Theorem.{VerdictRight, Numbered, Total}
 use Rattle.checker.specs.declared.call.Answer.{Answer}
 use Rattle.checker.specs.declared.call.Answer.TheVariants as answers
 use Rattle.checker.specs.declared.call.Call.{Call}
@@ -50,6 +51,17 @@ pub data ReportOf (kind : Kind) (img : Bytes) (bs : List ℕ) : Type 0 where
 -- a report of the image is written to a sink that was h, answers r and leaves k
 abbrev pub Reported : {T E : Type 0} → Step → Held → Kind → Bytes → Result T E → Held → Type 0
 Reported f h kind img r k = (bs : List ℕ) × ReportOf kind img bs × Writes f h bs r k
+
+-- ---- what is digested
+
+-- the files from 1 to n, the last of them first
+abbrev pub files_to : ℕ → List ℕ
+files_to zero = []
+files_to (suc k) = suc k ∷ files_to k
+
+-- the total of a digest sink rises, modulo 2 ^ 64, by as many bytes as are digested for the n files of the image, each of them once
+abbrev pub AllDigested : Kind → Bytes → ℕ → (before after : sinks.Meaning) → Type 0
+AllDigested kind img n before after = (r : ℕ) × Total kind img n (files_to n) r × (after.total ≡ (before.total + r) % (2 ^ 64))
 
 -- ---- the calls
 

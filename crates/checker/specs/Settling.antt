@@ -92,10 +92,14 @@ pub record HashedFile (kind : Kind) (v : View) (path text : Bytes) (before : sin
   pub count : n ≡ hashes.count
   pub verdict : PathsJudged (D kind) path text reads.tree given meaning s.verdict
 
+-- what a file with this fault is settled with
+abbrev pub faulted : Fault → Settlement
+faulted f = record { verdict = Err f; hashes = None }
+
 -- what a file that reads is settled with, where these are its links and input rows
 pub data ReadSettled (kind : Kind) (v : View) (l : Links) (inputs : List (Placed Input)) (path text : Bytes) (before : sinks.Meaning) (s : Settlement) (n : ℕ)
     (after : sinks.Meaning) : Type 0 where
-  faulty : (f : Fault) → LinksAsked v.row l inputs (Some f) → s ≡ record { verdict = Err f; hashes = None } → n ≡ 0 → after ≡ before
+  faulty : (f : Fault) → LinksAsked v.row l inputs (Some f) → s ≡ faulted f → n ≡ 0 → after ≡ before
       → ReadSettled kind v l inputs path text before s n after
   sure : LinksAsked v.row l inputs None → HashedFile kind v path text before s n after → ReadSettled kind v l inputs path text before s n after
 

@@ -18,7 +18,7 @@ use Rattle.verdict.specs.Laws.{Sound, BothUnhashed}
 use Rattle.verdict.specs.declared.fault.Fault.TheVariants.{NotCanonical}
 use Rattle.verdict.specs.Verdicts.{Verdict}
 use Rattle.checker.specs.Calls.{Kind, D, MaskedHash, PathStrings, Takes, Settles, PutsBack, Tells, Lines, Tails, Rewrites, Paths, Circles, shown}
-use Rattle.checker.specs.Events.{part, Event, took, settled, returned, told, located, rewritten, circled, lined, tailed, Refused, Request, asked, Stage, Happens, Runs}
+use Rattle.checker.specs.Events.{part, Event, took, settled, returned, told, located, rewritten, circled, lined, tailed, Refused, Request, asked, Stage, Happens, Runs, Leads}
 use Rattle.checker.specs.Opened.{SomeOpening, OneOpening}
 use Rattle.checker.specs.Soundness.{SoundView}
 use Rattle.checker.specs.Views.{View, fresh, files, path_at, Exists, TakenAt, HashedAt}
@@ -188,33 +188,39 @@ Distinct (k ∷ ks) = (Member k ks → ⊥) × Distinct ks
 
 -- ---- the main theorem: a list of calls from a newly opened checker on
 
-pub record Right (kind : Kind) (img : Bytes) (n : ℕ) (es : List Event) (t : Stage) : Type 0 where
+-- what holds of the calls' answers, and of the view that they leave
+pub record Right (kind : Kind) (img : Bytes) (n : ℕ) (es : List Event) (w : View) : Type 0 where
   -- every answer that is no refusal is the definition's, and none is pending where 33 is answered
   pub answers : AnswersRight kind img n [] es
   -- the image stays, and every settled file has the definition's verdict and hashes
-  pub opened : t.view.opened ≡ true
-  pub image : t.view.image ≡ img
-  pub count : t.view.count ≡ n
-  pub verdicts : (k : ℕ) (s : Settlement) → 1 ≤ k → k ≤ n → t.view.row k ≡ Settled s → VerdictRight kind (set_of img n) (file_path img k) s.verdict
-  pub hashes : (k : ℕ) (s : Settlement) → 1 ≤ k → k ≤ n → t.view.row k ≡ Settled s
+  pub opened : w.opened ≡ true
+  pub image : w.image ≡ img
+  pub count : w.count ≡ n
+  pub verdicts : (k : ℕ) (s : Settlement) → 1 ≤ k → k ≤ n → w.row k ≡ Settled s → VerdictRight kind (set_of img n) (file_path img k) s.verdict
+  pub hashes : (k : ℕ) (s : Settlement) → 1 ≤ k → k ≤ n → w.row k ≡ Settled s
       → Iff ((h : Hashes) × (s.hashes ≡ Some h)) (Hashable (set_of img n) (file_path img k))
-  pub are : (k : ℕ) (s : Settlement) (h : Hashes) → 1 ≤ k → k ≤ n → t.view.row k ≡ Settled s → s.hashes ≡ Some h
+  pub are : (k : ℕ) (s : Settlement) (h : Hashes) → 1 ≤ k → k ≤ n → w.row k ≡ Settled s → s.hashes ≡ Some h
       → Hashed (set_of img n) (D kind) (file_path img k) h.hash.bytes × MaskedHash (set_of img n) (D kind) (file_path img k) h.masked
   -- the settled files are those of the settles that were not refused, and the counts add up; no file is settled twice
-  pub exactly : (k : ℕ) → 1 ≤ k → k ≤ n → Iff (Member k (settles es)) ((s : Settlement) × (t.view.row k ≡ Settled s))
+  pub exactly : (k : ℕ) → 1 ≤ k → k ≤ n → Iff (Member k (settles es)) ((s : Settlement) × (w.row k ≡ Settled s))
   pub once : Distinct (settles es)
   pub total : Total kind img n (settles es) (counted es)
   -- whether a file is pending, taken or settled follows from these calls alone
-  pub phases : (k : ℕ) → 1 ≤ k → k ≤ n → PhaseRight es k (t.view.row k)
+  pub phases : (k : ℕ) → 1 ≤ k → k ≤ n → PhaseRight es k (w.row k)
   -- at most one visit is out
-  pub one : (j k : ℕ) → TakenAt t.view j → TakenAt t.view k → j ≡ k
+  pub one : (j k : ℕ) → TakenAt w j → TakenAt w k → j ≡ k
   -- and what the next call needs is so: above all, a taken file is ready, or no file that is not settled is; and the inputs of each file settled
   -- with a hash are settled with one
-  pub sound : SoundView kind t.view
+  pub sound : SoundView kind w
 
+-- of every list of calls, one by one: between two of them the client may do as it likes with its sink and its buffer, or lend others of the kind
+abbrev pub ClientTheorem : Type 0
+ClientTheorem = (kind : Kind) (img : Bytes) (n : ℕ) → Opens img n → (es : List Event) (w : View) → Leads kind (fresh img n) es w → Right kind img n es w
+
+-- and so of every run
 abbrev pub RunTheorem : Type 0
 RunTheorem = (kind : Kind) (img : Bytes) (n : ℕ) → Opens img n → (sink : sinks.Meaning) (buffer : List ℕ) (es : List Event) (t : Stage)
-    → Runs kind (record { view = fresh img n; sink = sink; buffer = buffer }) es t → Right kind img n es t
+    → Runs kind (record { view = fresh img n; sink = sink; buffer = buffer }) es t → Right kind img n es t.view
 
 -- a newly opened checker is sound, for every kind of digest sink
 abbrev pub FreshSound : Type 0
@@ -313,8 +319,15 @@ pub record Again (kind : Kind) (w : View) (k : ℕ) : Type 0 where
   pub itself : (out : List ℕ) (n : ℕ) (after : List ℕ) → Rewrites w k out (Ok n) after → Wrote (file_text w.image k) after n
   pub canonical_already : (place : ℕ) → Judged (files w) (D kind) (path_at w k) (Err (NotCanonical place)) → ⊥
 
+-- where its text is what a rewrite left
 abbrev pub RewrittenAgain : Type 0
-RewrittenAgain = (kind : Kind) (v w : View) (j k : ℕ) (m : Meaning) → Opens w.image w.count → Exists w k
+RewrittenAgain = (kind : Kind) (v w : View) (j k : ℕ) → Opens w.image w.count → Exists w k
+    → (out : List ℕ) (a : ℕ) (after : List ℕ) → Rewrites v j out (Ok a) after
+    → path_at w k ≡ path_at v j → file_text w.image k ≡ take a after → Again kind w k
+
+-- where its text is the canonical one of what the other file means
+abbrev pub CanonicalAgain : Type 0
+CanonicalAgain = (kind : Kind) (v w : View) (j k : ℕ) (m : Meaning) → Opens w.image w.count → Exists w k
     → Means (files v) (path_at v j) m → path_at w k ≡ path_at v j → file_text w.image k ≡ canonical m → Again kind w k
 
 -- ---- every call has an answer, and one only but for the row of 20 and the file of circle
@@ -395,6 +408,7 @@ OneCallAnswer = (kind : Kind) (v : View) → OneAnswer kind v
 -- what a list of calls answers, leaves and keeps; what its counts are; that open and every call have an answer, and one only; and when two
 -- files are rewritten alike
 pub record MainTheorem : Type 0 where
+  pub client : ClientTheorem
   pub right : RunTheorem
   pub fresh : FreshSound
   pub sound : SoundSteps
@@ -412,3 +426,4 @@ pub record MainTheorem : Type 0 where
   pub one : OneCallAnswer
   pub alike : RewrittenAlike
   pub again : RewrittenAgain
+  pub canonical : CanonicalAgain

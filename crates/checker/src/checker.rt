@@ -1,4 +1,5 @@
 // The checker's types; the modules below have what it does.
+ghost use Rattle.std.specs.Prelude.{◌≡◌};
 ghost use Rattle.image.specs.Files.{bytes_of, files_of};
 ghost use Rattle.links.specs.Linked.{AllLinked};
 
@@ -31,6 +32,15 @@ pub struct Checker<'a> {
 // A visit to a file that was taken. It is not `Drop`: it has to be settled or put back.
 pub struct Visit {
     file: usize,
+}
+
+impl Visit {
+    // The number of its file.
+    pub fn file(&self) -> usize
+        ensures { result ≡ self.now.file }
+    {
+        self.file
+    }
 }
 
 pub mod asking;

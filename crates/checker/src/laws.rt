@@ -1,11 +1,12 @@
 // The laws of calls, each a clause of one contract.
 ghost use Rattle.checker.specs.Opened.{OneOpening, SomeOpening};
-ghost use Rattle.checker.specs.Theorem.{CountIsRise, EveryCallAnswers, EveryListRuns, FreshSound, OneCallAnswer, RefusedStays, RewrittenAlike, RewrittenAgain, RunTheorem, RunsSplit, SoundHashesHold, SoundSteps, TotalsRise, TotalsSmall, WrittenStays};
+ghost use Rattle.checker.specs.Theorem.{CanonicalAgain, ClientTheorem, CountIsRise, EveryCallAnswers, EveryListRuns, FreshSound, OneCallAnswer, RefusedStays, RewrittenAlike, RewrittenAgain, RunTheorem, RunsSplit, SoundHashesHold, SoundSteps, TotalsRise, TotalsSmall, WrittenStays};
 
-// For every kind of digest sink, every image that opens and every list of calls, every answer that is no refusal is the definition's, settled files have its verdicts and hashes, each file is settled once, the counts add up, and which file is pending, taken or settled follows from the calls.
+// For every kind of digest sink, every image that opens and every list of calls, every answer that is no refusal is the definition's, settled files have its verdicts and hashes, each file is settled once, the counts add up, and which file is pending, taken or settled follows from the calls: whether one sink and one buffer go from call to call, or each call is lent its own.
 // A newly opened checker is sound, and every call leaves a sound view sound; a refused call leaves the files, the sink and the buffer as they were; a front of a run is a run.
 // Of the buffer a call changes the bytes of the text that it writes at the start of its part, and no other.
 pub fn runs_stand() -> bool
+    ensures client { ClientTheorem }
     ensures right { RunTheorem }
     ensures fresh { FreshSound }
     ensures sound { SoundSteps }
@@ -52,10 +53,11 @@ pub fn one_answer_a_call() -> bool
     true
 }
 
-// Two files that read, of one image or of two, are rewritten alike exactly where their meanings are equal, and a rewritten text at its path is rewritten to itself, of its length.
+// Two files that read, of one image or of two, are rewritten alike exactly where their meanings are equal, and what a rewrite left, at its path in an image that opens, is rewritten to itself, of its length.
 pub fn rewriting_stands() -> bool
     ensures alike { RewrittenAlike }
     ensures again { RewrittenAgain }
+    ensures canonical { CanonicalAgain }
 {
     true
 }

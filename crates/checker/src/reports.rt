@@ -1,9 +1,9 @@
 // The report of an image.
-ghost use Rattle.std.specs.Prelude.{◌≡◌};
-ghost use Rattle.image.specs.Opening.{Refused};
+ghost use Rattle.std.specs.Prelude.{◌≡◌, ℕ};
+ghost use Rattle.image.specs.Opening.{Opens, Refused};
 ghost use Rattle.image.specs.declared.refusal.Refusal.{Refusal};
 ghost use Rattle.sink.specs.Write.{Writes};
-ghost use Rattle.checker.specs.Reports.{call_at, report_calls, report_text, verdict_in, verdicts_in, Reported};
+ghost use Rattle.checker.specs.Reports.{call_at, report_calls, report_text, verdict_in, verdicts_in, AllDigested, Reported};
 ghost use Rattle.checker.specs.Settling.{kind_of};
 
 use crate::call::{Answer, Call, Offer};
@@ -69,9 +69,10 @@ fn write_lines<S: Sink>(answers: &[Option<Answer>], out: &mut S) -> Result<(), F
 }
 
 // The report of an image to any sink, with any digest sink: the line of its refusal, or a line a file and then the last line.
-// Where the image is refused, the digest sink stays as it was.
+// Where the image is refused, the digest sink stays as it was; where it opens, its total rises by what is digested for each file once.
 pub fn report<D: DigestSink, S: Sink>(bytes: &[u8], digest: &mut D, out: &mut S) -> Result<(), Full>
     ensures told { Reported S.Sink.step (S.Sink.held out.old) (kind_of D.Sink.step D.DigestSink.start D.DigestSink.capacity D.DigestSink.answered D.DigestSink.wide) bytes.now result (S.Sink.held out.new) }
+    ensures digested { (n : ℕ) → Opens bytes.now n → AllDigested (kind_of D.Sink.step D.DigestSink.start D.DigestSink.capacity D.DigestSink.answered D.DigestSink.wide) bytes.now n (D.Sink.held digest.old).meaning (D.Sink.held digest.new).meaning }
     ensures kept { (e : Refusal) → Refused bytes.now e → digest.new ≡ digest.old }
 {
     let calls = calls();

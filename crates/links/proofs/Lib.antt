@@ -1,3 +1,4 @@
 pub mod Files
+pub mod Names
 pub mod Ownership
 pub mod Turns

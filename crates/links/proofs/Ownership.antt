@@ -1,5 +1,5 @@
 -- What a file owns, by the bytes of the names of its outputs.
-use Rattle.std.proofs.Common.{◌≡◌, List, [], ◌∷◌, map, Some, sym, refl, ap, ◌∙◌, subst, inl, inr}
+use Rattle.std.proofs.Common.{◌≡◌, List, map, Some, sym, ap, ◌∙◌, subst, inl, inr}
 use Rattle.std.specs.List.{AllByRecursion}
 use Rattle.aterm.specs.Files.{output, derivation}
 use Rattle.aterm.specs.Grammar.{Tree, string, raw, meaning}
@@ -19,16 +19,7 @@ use Rattle.hash_modulo.proofs.Hashes.{one_text}
 use Rattle.verdict.specs.Judged.{output_of}
 use Rattle.verdict.proofs.Meant.{output_there, output_back}
 use Rattle.links.specs.Owners.{OwnsOutput}
-
-member_map : {X Y : Type 0} (f : X → Y) (xs : List X) (y : Y) → Member y (map f xs) → (x : X) × Member x xs × (y ≡ f x)
-member_map f [] y i = absurd i
-member_map f (x ∷ xs) y (inl e) = (x, inl refl, e)
-member_map f (x ∷ xs) y (inr i) = let w = member_map f xs y i in (w.0, inr w.1, w.2)
-
-map_member : {X Y : Type 0} (f : X → Y) (xs : List X) (x : X) → Member x xs → Member (f x) (map f xs)
-map_member f [] x i = absurd i
-map_member f (y ∷ xs) x (inl e) = inl (ap f e)
-map_member f (y ∷ xs) x (inr i) = inr (map_member f xs x i)
+use Rattle.links.proofs.Names.{member_map, map_member}
 
 module _ (set : Files) (p text : Bytes) (there : set p ≡ Some text) where
   read_here : (m : Meaning) → sets.Means set p m → Reads p text m

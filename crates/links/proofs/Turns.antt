@@ -6,7 +6,6 @@ use Rattle.std.proofs.lemmas.Bool.{false≢true}
 use Rattle.aterm.specs.Grammar.{Shape, Tree}
 use Rattle.aterm.specs.Reads.{Each, past}
 use Rattle.aterm.specs.declared.rows.Placed.{Placed}
-use Rattle.canonical.specs.Order.{Member}
 use Rattle.canonical.proofs.Members.{member_all, member_at}
 use Rattle.derivation.proofs.Scan.{each_length}
 
@@ -36,19 +35,6 @@ module _ {V : Type 0} (s : Shape) (H : ℕ → V → Tree s → Type 0) (P : Tre
         let v = some_row vs k l in
         let w = held_at s H from vs xs k v x l rows in
         (v, w.0, w.1)
-
-    -- whether it is yes at one of them
-    pub decides_any : (x : Tree s) (b : Bool) → MatchBool b ((k : ℕ) × (k < length vs) × HoldsAt Yes vs k) (AllWithin No vs 0 (length vs)) → Decides b ((t : Tree s) × Member t xs × P t)
-    decides_any x true (k, l, holds) = (
-      λ _. let w = at_tree k x l in (get_or xs k x, member_at xs k x (omega (arith, each_length s H from vs xs rows)), holds w.0 w.1 (get_or xs k x) w.2),
-      λ _. refl,
-    )
-    decides_any x false none = (
-      λ e. absurd (false≢true e),
-      λ z. absurd (member_all (λ t. P t → ⊥) xs z.0
-          (all_from_every (λ t. P t → ⊥) xs (λ k d _ l. let h : k < length vs = omega (arith, each_length s H from vs xs rows) in let w = at_tree k d h in none k w.0 (omega arith) h w.1 (get_or xs k d) w.2))
-          z.1 z.2),
-    )
 
     -- whether it is yes at each of them
     pub decides_all : (x : Tree s) (b : Bool) → MatchBool b (AllWithin Yes vs 0 (length vs)) ((k : ℕ) × (k < length vs) × HoldsAt No vs k) → Decides b (AllByRecursion P xs)

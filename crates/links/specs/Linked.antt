@@ -52,6 +52,11 @@ module _ (img : Bytes) (n : ℕ) where
   abbrev pub Linked : ℕ → Option Links → Type 0
   Linked k l = FileLinked (file_path img k) (file_text img k) l
 
+  -- and of a number, which may be past the files: nothing then
+  pub record LinkedAt (k : ℕ) (l : Option Links) : Type 0 where
+    pub within : 1 ≤ k → k ≤ n → Linked k l
+    pub past : n < k → l ≡ None
+
 -- what a table keeps of the file of this number
 abbrev pub links_at : LinkTable → ℕ → Option Links
 links_at t k = slice_index_or t.files (k - 1) None

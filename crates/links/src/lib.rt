@@ -4,6 +4,8 @@
 mod finding;
 mod laws;
 mod link;
+mod output_names;
+mod owners;
 mod owning;
 mod rows;
 mod table;

@@ -12,7 +12,7 @@ use std::ops::Range;
 
 impl<'a> OpenSet<'a> {
     // The numbers of the files. Not `1..=count`: what the library proves of a search speaks of a range without its end.
-    pub fn numbers(&self) -> Range<usize>
+    pub(super) fn numbers(&self) -> Range<usize>
         ensures { result ≡ record { start = 1; «end» = files_of self.now.files.image + 1 } }
     {
         1..self.files.image.count() + 1
@@ -53,7 +53,7 @@ impl<'a> OpenSet<'a> {
     }
 
     // The lowest pending file that is ready, or, if none is, the lowest pending one.
-    pub fn choose(&self) -> Option<usize>
+    pub(super) fn choose(&self) -> Option<usize>
         ensures { Choice (view_in self.now) result }
     {
         // No `or_else`: after it nothing is known of what its closure answered, so the proof did not close.

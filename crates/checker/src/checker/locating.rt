@@ -1,5 +1,5 @@
 // Right paths of a file: its own, and those of its outputs.
-ghost use Rattle.std.specs.Prelude.{◌≡◌, ◌+◌, ◌≤◌, length, Decides, OnErr, IfErr};
+ghost use Rattle.std.specs.Prelude.{◌≡◌, ℕ, ◌+◌, ◌≤◌, List, length, Decides, OnErr, IfOk, IfErr};
 ghost use Rattle.canonical.specs.Files.{output_value};
 ghost use Rattle.canonical.specs.Kinds.{Lawful};
 ghost use Rattle.canonical.specs.Meanings.{a_derivation};
@@ -38,11 +38,14 @@ fn fits<T: ToSink>(what: &T, room: usize) -> bool
     what.write_to(&mut counter).is_ok() && counter.count() <= room as u64
 }
 
-// Whether a store path with this name fits: before it stand `/nix/store/`, 32 digits and a hyphen.
+// How many bytes of a store path stand before its name: `/nix/store/`, 32 digits and a hyphen.
+const BEFORE_NAME: usize = 44;
+
+// Whether a store path with this name fits.
 fn has_room<N: ToSink>(name: &N, out: &[u8]) -> bool
     ensures { Decides result (path_length (N.ToSink.bytes name.now) ≤ length out.now) }
 {
-    44 <= out.len() && fits(name, out.len() - 44)
+    BEFORE_NAME <= out.len() && fits(name, out.len() - BEFORE_NAME)
 }
 
 // The store path with these digits and this name, from the buffer's start.
@@ -180,6 +183,7 @@ impl<'a> OpenSet<'a> {
         sink: &mut S,
     ) -> Result<usize, CallRefusal>
         ensures located { SoundView (kind_of S.Sink.step S.DigestSink.start S.DigestSink.capacity S.DigestSink.answered S.DigestSink.wide) (view_in self.now) → Paths (kind_of S.Sink.step S.DigestSink.start S.DigestSink.capacity S.DigestSink.answered S.DigestSink.wide) (view_in self.now) number j out.old (S.Sink.held sink.old).meaning result out.new (S.Sink.held sink.new).meaning }
+        ensures written { IfOk result (λ n. (q : List ℕ) × Put q out.old n out.new) }
         ensures refused { IfErr result (PathRefused (view_in self.now) number j (length out.old)) }
         ensures same { OnErr result ((out.new ≡ out.old) × (sink.new ≡ sink.old)) }
     {
@@ -194,7 +198,7 @@ impl<'a> OpenSet<'a> {
 
 impl<'a> Checker<'a> {
     // Right path `j` of a file, from the buffer's start, digested anew; a refusal leaves the buffer and the sink.
-    // That the view is sound stands as a premise: it depends on the digest that the files were settled with.
+    // What it answers is said where all files were settled with sinks of this kind.
     pub fn path<S: DigestSink>(
         &self,
         file: usize,
@@ -203,6 +207,7 @@ impl<'a> Checker<'a> {
         sink: &mut S,
     ) -> Result<usize, CallRefusal>
         ensures located { SoundView (kind_of S.Sink.step S.DigestSink.start S.DigestSink.capacity S.DigestSink.answered S.DigestSink.wide) (view_of self.now) → Paths (kind_of S.Sink.step S.DigestSink.start S.DigestSink.capacity S.DigestSink.answered S.DigestSink.wide) (view_of self.now) file j out.old (S.Sink.held sink.old).meaning result out.new (S.Sink.held sink.new).meaning }
+        ensures written { IfOk result (λ n. (q : List ℕ) × Put q out.old n out.new) }
         ensures refused { IfErr result (PathRefused (view_of self.now) file j (length out.old)) }
         ensures same { OnErr result ((out.new ≡ out.old) × (sink.new ≡ sink.old)) }
     {

@@ -1,8 +1,10 @@
 // A checker, and the set that it opens.
-ghost use Rattle.std.specs.Prelude.{◌≡◌, OnErr};
+ghost use Rattle.std.specs.Prelude.{◌≡◌, OnOk, OnErr};
 ghost use Rattle.image.specs.Files.{bytes_of, files_of};
+ghost use Rattle.checker.specs.Calls.{Kind};
 ghost use Rattle.checker.specs.Opened.{OpensSet};
 ghost use Rattle.checker.specs.Seen.{view_of, view_in, view_none};
+ghost use Rattle.checker.specs.Soundness.{SoundView};
 ghost use Rattle.checker.specs.Views.{fresh};
 
 use super::{Checker, LinkedImage, OpenSet};
@@ -38,7 +40,8 @@ impl<'a> OpenSet<'a> {
 impl<'a> Checker<'a> {
     // Nothing is opened.
     pub fn new() -> Checker<'a>
-        ensures { view_of result ≡ view_none }
+        ensures none { view_of result ≡ view_none }
+        ensures sound { (kind : Kind) → SoundView kind (view_of result) }
     {
         Checker { opened: None }
     }
@@ -46,6 +49,7 @@ impl<'a> Checker<'a> {
     // Opens the set of an image, unless one is opened; a refusal leaves all as it was.
     pub fn open(&mut self, bytes: &'a [u8]) -> Result<(), OpenRefusal>
         ensures opens { OpensSet (view_of self.old) bytes.now result (view_of self.new) }
+        ensures sound { OnOk result ((kind : Kind) → SoundView kind (view_of self.new)) }
         ensures same { OnErr result (self.new ≡ self.old) }
     {
         if self.opened.is_some() {

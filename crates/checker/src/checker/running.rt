@@ -125,7 +125,8 @@ impl<'a> Checker<'a> {
     }
 }
 
-// A list of calls over one checker, which opens the image, one sink and one buffer.
+// A list of calls over one checker, which opens the image, one sink and one buffer: as many as there is room for answers.
+// Where the image does not open, each call is refused.
 pub fn run<S: DigestSink>(
     bytes: &[u8],
     sink: &mut S,

@@ -1,17 +1,17 @@
-// What settling a file looks up: the hashes of the files that its input rows name, and the first row that stands against it.
-ghost use Rattle.std.specs.Prelude.{◌≡◌, ◌<◌, ◌≤◌, length, slice_index_or};
+// What settling a file looks up: the hashes of the files that its input rows name, and the first fault that stands against it.
+ghost use Rattle.std.specs.Prelude.{◌≡◌, ◌<◌, ◌≤◌, length, Some, None, MatchResult, IfOk, IfErr, OnErr, slice_index_or};
 ghost use Rattle.derivation.specs.Judgement.{Accepted};
 ghost use Rattle.store_path.specs.Names.{StorePath};
 ghost use Rattle.aterm.specs.declared.file.Input.{Input};
 ghost use Rattle.aterm.specs.declared.rows.Placed.{Placed};
 ghost use Rattle.canonical.specs.Files.{said_in};
 ghost use Rattle.image.specs.Files.{bytes_of, files_of};
-ghost use Rattle.links.specs.Linked.{FileLinked, RowsLinked};
+ghost use Rattle.links.specs.Linked.{FileLinked};
 ghost use Rattle.links.specs.Sets.{Found};
 ghost use Rattle.right_paths.specs.Views.{said_by};
 ghost use Rattle.checker.specs.Rows.{row_at};
 ghost use Rattle.checker.specs.Seen.{view_in};
-ghost use Rattle.checker.specs.Settling.{hash_kept, HashFound, HashFor, HashesFor, FirstSpot, LinksAsked, kind_of, HashedFile, ReadDecided};
+ghost use Rattle.checker.specs.Settling.{hash_kept, HashFound, HashFor, HashesFor, FirstSpot, LinksAsked, kind_of, HashedFile, faulted, ReadDecided};
 
 use super::OpenSet;
 use crate::standing::{Standing, first_link};
@@ -81,31 +81,35 @@ impl<'a> OpenSet<'a> {
         )
     }
 
-    // Where the first input row is whose file stands so.
-    fn first_spot(&self, links: &Links, inputs: &[Placed<Input>], wanted: Standing) -> Option<Spot>
+    // Whether no input row's file stands so; if one does, where the first of them is.
+    fn ask_rows(
+        &self,
+        links: &Links,
+        inputs: &[Placed<Input>],
+        unwanted: Standing,
+    ) -> Result<(), Spot>
         requires { links.now.count ≡ length inputs.now }
-        ensures { FirstSpot (row_at self.now.states) links.now inputs.now wanted result }
+        ensures { MatchResult result (λ _. FirstSpot (row_at self.now.states) links.now inputs.now unwanted None) (λ w. FirstSpot (row_at self.now.states) links.now inputs.now unwanted (Some w)) }
     {
-        let i = first_link(links, &self.states, wanted)?;
-        Some(Spot::of_row(Field::Inputs, i + 1, &inputs[i]))
+        match first_link(links, &self.states, unwanted) {
+            Some(i) => Err(Spot::of_row(Field::Inputs, i + 1, &inputs[i])),
+            None => Ok(()),
+        }
     }
 
-    // Questions 18 to 20: the fault of the first with the answer no.
-    fn fault_of_links(&self, links: &Links, inputs: &[Placed<Input>]) -> Option<Fault>
+    // Questions 18 to 20, and the fault of the first with the answer no.
+    fn check_links(&self, links: &Links, inputs: &[Placed<Input>]) -> Result<(), Fault>
         requires { links.now.count ≡ length inputs.now }
-        ensures { LinksAsked (row_at self.now.states) links.now inputs.now result }
+        ensures { MatchResult result (λ _. LinksAsked (row_at self.now.states) links.now inputs.now None) (λ f. LinksAsked (row_at self.now.states) links.now inputs.now (Some f)) }
     {
-        if let Some(spot) = self.first_spot(links, inputs, Standing::Absent) {
-            return Some(Fault::Absent(spot));
-        }
-        if let Some(spot) = self.first_spot(links, inputs, Standing::Unowned) {
-            return Some(Fault::Unowned(spot));
-        }
-        if let Some(spot) = self.first_spot(links, inputs, Standing::Unhashed) {
-            return Some(Fault::Unhashed(spot));
-        }
-        let spot = self.first_spot(links, inputs, Standing::Waiting)?;
-        Some(Fault::Unhashed(spot))
+        self.ask_rows(links, inputs, Standing::Absent)
+            .map_err(Fault::Absent)?;
+        self.ask_rows(links, inputs, Standing::Unowned)
+            .map_err(Fault::Unowned)?;
+        self.ask_rows(links, inputs, Standing::Unhashed)
+            .map_err(Fault::Unhashed)?;
+        self.ask_rows(links, inputs, Standing::Waiting)
+            .map_err(Fault::Unhashed)
     }
 
     // What a file that reads is settled with by the hashes of its inputs, and how many bytes are digested for it.
@@ -142,34 +146,29 @@ impl<'a> OpenSet<'a> {
         }
     }
 
-    // What a file that reads is settled with, by its links, and how many bytes are digested for it.
-    fn settle_read<S: DigestSink>(
+    // What a file is settled with if nothing stands against it before its hash is worked out, or the fault that does.
+    fn decide<S: DigestSink>(
         &self,
         file: File<'_>,
-        read: &Derivation,
-        links: &Links,
+        links: Option<Links>,
         sink: &mut S,
-    ) -> Counted<Settlement>
-        requires reads { Accepted file.path.now file.text.now read.now }
+    ) -> Result<Counted<Settlement>, Fault>
         requires stored { StorePath file.path.now }
         requires near { length file.path.now ≤ 255 }
         requires short { length file.text.now ≤ 262144 }
-        requires linked { RowsLinked (bytes_of self.now.files.image) (files_of self.now.files.image) file.path.now file.text.now links.now }
-        ensures { ReadDecided (kind_of S.Sink.step S.DigestSink.start S.DigestSink.capacity S.DigestSink.answered S.DigestSink.wide) (view_in self.now) file.entry.path.now file.entry.text.now (S.Sink.held sink.old).meaning result.value result.count (S.Sink.held sink.new).meaning }
+        requires linked { FileLinked (bytes_of self.now.files.image) (files_of self.now.files.image) file.path.now file.text.now links }
+        ensures decided { IfOk result (λ d. ReadDecided (kind_of S.Sink.step S.DigestSink.start S.DigestSink.capacity S.DigestSink.answered S.DigestSink.wide) (view_in self.now) file.entry.path.now file.entry.text.now (S.Sink.held sink.old).meaning d.value d.count (S.Sink.held sink.new).meaning) }
+        ensures faulty { IfErr result (λ f. ReadDecided (kind_of S.Sink.step S.DigestSink.start S.DigestSink.capacity S.DigestSink.answered S.DigestSink.wide) (view_in self.now) file.entry.path.now file.entry.text.now (S.Sink.held sink.old).meaning (faulted f) 0 (S.Sink.held sink.old).meaning) }
+        ensures same { OnErr result (sink.new ≡ sink.old) }
     {
-        match self.fault_of_links(links, read.inputs.as_slice()) {
-            Some(fault) => Counted {
-                value: Settlement {
-                    verdict: Err(fault),
-                    hashes: None,
-                },
-                count: 0,
-            },
-            None => self.settle_hashed(file.path, file.text, read, sink),
-        }
+        let read = read_file(file.path, file.text).map_err(Fault::Reading)?;
+        // A file that reads has links.
+        let links = links.unwrap();
+        self.check_links(&links, read.inputs.as_slice())?;
+        Ok(self.settle_hashed(file.path, file.text, &read, sink))
     }
 
-    // What a file is settled with, by what is kept of it, and how many bytes are digested for it.
+    // What a file is settled with, by what is kept of it, and how many bytes are digested for it: none where its hash is not worked out.
     pub(super) fn settle_file<S: DigestSink>(
         &self,
         file: File<'_>,
@@ -182,12 +181,11 @@ impl<'a> OpenSet<'a> {
         requires linked { FileLinked (bytes_of self.now.files.image) (files_of self.now.files.image) file.path.now file.text.now links }
         ensures { ReadDecided (kind_of S.Sink.step S.DigestSink.start S.DigestSink.capacity S.DigestSink.answered S.DigestSink.wide) (view_in self.now) file.entry.path.now file.entry.text.now (S.Sink.held sink.old).meaning result.value result.count (S.Sink.held sink.new).meaning }
     {
-        match (read_file(file.path, file.text), links) {
-            (Ok(read), Some(links)) => self.settle_read(file, &read, &links, sink),
-            (Ok(_), None) => unreachable!(),
-            (Err(fault), _) => Counted {
+        match self.decide(file, links, sink) {
+            Ok(decided) => decided,
+            Err(fault) => Counted {
                 value: Settlement {
-                    verdict: Err(Fault::Reading(fault)),
+                    verdict: Err(fault),
                     hashes: None,
                 },
                 count: 0,

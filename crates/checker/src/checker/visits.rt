@@ -1,5 +1,5 @@
 // Visits to the files of a set: take, settle, put back.
-ghost use Rattle.std.specs.Prelude.{◌≡◌, Decides, OnOk, OnErr, IfErr};
+ghost use Rattle.std.specs.Prelude.{◌≡◌, ◌+◌, ◌%◌, ◌^◌, Decides, OnOk, OnErr, IfOk, IfErr};
 ghost use Rattle.checker.specs.Calls.{SomeTaken, Takes, VisitRefused, SomeSettled, Settles, PutsBack};
 ghost use Rattle.checker.specs.Seen.{view_of, view_in, visited, told_back};
 ghost use Rattle.checker.specs.Settling.{kind_of};
@@ -45,6 +45,7 @@ impl<'a> OpenSet<'a> {
         sink: &mut S,
     ) -> Result<u64, (Visit, CallRefusal)>
         ensures settles { SoundView (kind_of S.Sink.step S.DigestSink.start S.DigestSink.capacity S.DigestSink.answered S.DigestSink.wide) (view_in self.old) → Settles (kind_of S.Sink.step S.DigestSink.start S.DigestSink.capacity S.DigestSink.answered S.DigestSink.wide) (view_in self.old) visit.file (S.Sink.held sink.old).meaning (told_back result) (view_in self.new) (S.Sink.held sink.new).meaning }
+        ensures rise { SoundView (kind_of S.Sink.step S.DigestSink.start S.DigestSink.capacity S.DigestSink.answered S.DigestSink.wide) (view_in self.old) → IfOk result (λ n. (S.Sink.held sink.new).meaning.total ≡ ((S.Sink.held sink.old).meaning.total + n) % (2 ^ 64)) }
         ensures changes { OnOk result (SomeSettled (view_in self.old) visit.file (view_in self.new)) }
         ensures refused { IfErr result (λ e. VisitRefused (view_in self.old) visit.file e.1) }
         ensures same { OnErr result ((self.new ≡ self.old) × (sink.new ≡ sink.old)) }
@@ -86,13 +87,15 @@ impl<'a> Checker<'a> {
         }
     }
 
-    // The file is settled, and the answer is how many bytes are digested for it; a refusal hands the visit back.
+    // The file is settled, and the answer is how many bytes are digested for it, by which the sink's total rises; a refusal hands the visit back.
+    // What it is settled with is said where all files before were settled with sinks of this kind.
     pub fn settle<S: DigestSink>(
         &mut self,
         visit: Visit,
         sink: &mut S,
     ) -> Result<u64, (Visit, CallRefusal)>
         ensures settles { SoundView (kind_of S.Sink.step S.DigestSink.start S.DigestSink.capacity S.DigestSink.answered S.DigestSink.wide) (view_of self.old) → Settles (kind_of S.Sink.step S.DigestSink.start S.DigestSink.capacity S.DigestSink.answered S.DigestSink.wide) (view_of self.old) visit.file (S.Sink.held sink.old).meaning (told_back result) (view_of self.new) (S.Sink.held sink.new).meaning }
+        ensures rise { SoundView (kind_of S.Sink.step S.DigestSink.start S.DigestSink.capacity S.DigestSink.answered S.DigestSink.wide) (view_of self.old) → IfOk result (λ n. (S.Sink.held sink.new).meaning.total ≡ ((S.Sink.held sink.old).meaning.total + n) % (2 ^ 64)) }
         ensures changes { OnOk result (SomeSettled (view_of self.old) visit.file (view_of self.new)) }
         ensures refused { IfErr result (λ e. VisitRefused (view_of self.old) visit.file e.1) }
         ensures same { OnErr result ((self.new ≡ self.old) × (sink.new ≡ sink.old)) }

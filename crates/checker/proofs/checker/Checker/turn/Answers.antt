@@ -9,7 +9,7 @@ returns-in-Take g c = λ sound.
 pub returns-in-Settle : goal.returns-in-Settle
 returns-in-Settle g c = λ sound.
     settled_turn g.S.Sink.held _ c.args.last.now c.args.call c.args.self.now c.args.sink.now c.args.buffer.now c.in-Settle.offer c.file.result c.settle_at.result c.settle_at.new.self
-    c.settle_at.new.sink c.in-Settle.is c.file.ensures (c.settle_at.ensures.settles sound) c.settle_at.ensures.same
+    c.settle_at.new.sink (g.S.Sink.wraps c.args.sink.now) c.in-Settle.is c.file.ensures (c.settle_at.ensures.settles sound) c.settle_at.ensures.same
 
 pub returns-in-PutBack : goal.returns-in-PutBack
 returns-in-PutBack g c = λ sound.

@@ -6,7 +6,7 @@ use Rattle.checker.specs.Locating.{LocatedIfRead}
 use Rattle.checker.specs.Seen.{view_in}
 use Rattle.checker.specs.Settling.{kind_of}
 use Rattle.checker.specs.Views.{path_at}
-use Rattle.checker.proofs.Placed.{stored_at, near_at, short_at, hashed_at, path_answered, path_refused}
+use Rattle.checker.proofs.Placed.{stored_at, near_at, short_at, hashed_at, path_written, path_answered, path_refused}
 use Rattle.checker.proofs.Reopened.{image_opens}
 use Rattle.checker.proofs.checker.OpenSet.path.Goals as goal
 
@@ -47,6 +47,13 @@ returns-clause-located g c = λ sound.
     path_answered kind v k (image_opens c.args.self.now.files.image) sound refl there.0 h.0 h.1 j out before r after sink
     (subst (λ (t : Bytes). LocatedIfRead kind v (path_at v k) t j out before r after sink) there.2
     (subst (λ (q : Bytes). LocatedIfRead kind v q c.in_ok-file.file.text.now j out before r after sink) there.1 c.write_path.ensures.located))
+
+pub returns-clause-written : goal.returns-clause-written
+returns-clause-written g c =
+    let s = g.S.Sink in
+    let d = g.S.DigestSink in
+    path_written (kind_of s.step d.start d.capacity d.answered d.wide) (view_in c.args.self.now) c.in_ok-file.file.path.now c.in_ok-file.file.text.now c.args.j c.args.out.now
+    (s.held c.args.sink.now).meaning c.write_path.result c.write_path.new.out (s.held c.write_path.new.sink).meaning c.write_path.ensures.located
 
 pub returns-clause-refused : goal.returns-clause-refused
 returns-clause-refused g c =

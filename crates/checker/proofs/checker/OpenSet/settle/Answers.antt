@@ -9,6 +9,7 @@ use Rattle.checker.specs.Calls as calls
 use Rattle.checker.specs.Seen.{view_in}
 use Rattle.checker.specs.Settling.{kind_of}
 use Rattle.checker.specs.Views.{View, files}
+use Rattle.checker.proofs.Counting.{count_is_rise}
 use Rattle.checker.proofs.Placed.{stored_at, near_at}
 use Rattle.checker.proofs.Reopened.{image_opens, all_linked}
 use Rattle.checker.proofs.checker.OpenSet.settle.Goals as goal
@@ -53,3 +54,8 @@ returns-clause-settles g c = λ sound.
       subst (λ (p : Bytes). calls.Decides kind (files v) p settled (g.S.Sink.held c.args.sink.now).meaning c.settle_file-decided.result.count (g.S.Sink.held c.settle_file-decided.new.sink).meaning) path
           (c.settle_file-decided.ensures sound k taken (sym path) there),
     )
+
+pub returns-clause-rise : goal.returns-clause-rise
+returns-clause-rise g c = λ sound.
+    count_is_rise _ (view_in c.args.self.now) _ c.args.visit.file c.settle_file-decided.result.count
+    (g.S.Sink.held c.args.sink.now).meaning (g.S.Sink.held c.settle_file-decided.new.sink).meaning (g.S.Sink.wraps c.args.sink.now) (returns-clause-settles g c sound)
