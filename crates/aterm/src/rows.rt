@@ -71,30 +71,23 @@ impl<T: Copy, const N: usize> Rows<T, N> {
         &self.items[..self.len]
     }
 
-    // The same table without rows. Apart, since the borrow checker covers no function that uses an array of T after it was copied out.
-    fn emptied(mut self) -> Rows<T, N>
-        ensures { result.len ≡ 0 }
-    {
-        self.len = 0;
-        self
-    }
-
     // Changes each row, which keeps its place. A loop: the array's own `map` asks that an iterator of its items fits in memory, which is not
-    // known of every T and N, and it would change the items that are of no meaning.
+    // known of every T and N, and it would change the items that are of no meaning. By places, in place: to fill a second table moves all of it once more.
     pub fn map<F: Fn(T) -> T>(self, change: F) -> Rows<T, N>
         requires { F.IsAlwaysCallable change }
         ensures len { result.len ≡ self.len }
         ensures rows { AllZip (λ v w. (w.place ≡ v.place) × F.post change v.value w.value) (rows_of self) (rows_of result) }
     {
-        let mut changed = self.emptied();
-        for row in self.as_slice() {
+        let Rows { mut items, len } = self;
+        for i in 0..len {
+            let row = items[i];
             let value = change(row.value);
-            changed.push(Placed {
+            items[i] = Placed {
                 place: row.place,
                 value,
-            });
+            };
         }
-        changed
+        Rows { items, len }
     }
 
     // Adds a row; there is room for it.

@@ -98,7 +98,7 @@ stuck_at kind v sound none (hashable m e y i) k a same =
     none k a (supplied m (subst (λ (q : Bytes). Means (files v) q m) (sym same) e)
     (λ r o. settled_with kind v sound r.0 (i r o) (stuck_at kind v sound none (i r o)) (number_of v r.0 (y.present r o))))
 
-stuck : (kind : Kind) (v : View) → SoundView kind v → NoneReady v → (k : ℕ) → WaitingAt v k → Hashable (files v) (path_at v k) → ⊥
+pub stuck : (kind : Kind) (v : View) → SoundView kind v → NoneReady v → (k : ℕ) → WaitingAt v k → Hashable (files v) (path_at v k) → ⊥
 stuck kind v sound none k a y = stuck_at kind v sound none y k a refl
 
 -- ---- the inputs of a file with a hash

@@ -5,7 +5,7 @@ use Rattle.aterm.specs.Grammar.{Tree, meaning}
 use Rattle.aterm.specs.Reads.{Each}
 use Rattle.aterm.specs.declared.file.Input.{Input}
 use Rattle.aterm.specs.declared.rows.Placed.{Placed}
-use Rattle.derivation.specs.Asked.{FirstNo, First, rows_at}
+use Rattle.derivation.specs.Asked.{field_number, FirstNo, First, rows_at}
 use Rattle.derivation.specs.declared.field.Field.TheVariants.{Inputs}
 use Rattle.derivation.specs.declared.spot.Spot.{Spot}
 use Rattle.derivation.proofs.Scan.{Split, split, one_at, found, clean_all, clean_before, Clean}
@@ -200,5 +200,5 @@ module _ (row : ℕ → State) (text : Bytes) (l : Links) (inputs : List (Placed
         let r = split input (in_input text) from inputs ts i (omega (arith, less, same)) v.0 v.1 rows in
         let c = clean i (omega (arith, less, same)) before in
         let f = found input (in_input text) Asks Inputs from inputs ts i v.0 r c (λ y. not i less here (subst Yes (sym (tree_at i v.0 r)) y)) in
-        let spot = is v.0 ∙ ap (λ (u : Placed Input). record { field = Inputs; row = i + 1; place = u.place }) (sym v.1) in
+        let spot = is v.0 ∙ ap (λ (u : Placed Input). record { field = field_number Inputs; row = i + 1; place = u.place }) (sym v.1) in
         subst (FirstNo (λ (e : List (Tree input) × Tree input). Yes e.1) (rows_at input Inputs from [] ts)) (sym spot) f.0

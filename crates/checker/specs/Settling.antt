@@ -4,6 +4,7 @@ use Rattle.std.specs.Prelude.{◌≡◌, ℕ, ◌+◌, ◌<◌, List, length, So
 use Rattle.aterm.specs.declared.file.Input.{Input}
 use Rattle.aterm.specs.declared.rows.Placed.{Placed}
 use Rattle.canonical.specs.Files.{said_in}
+use Rattle.derivation.specs.Asked.{field_number}
 use Rattle.derivation.specs.declared.field.Field.TheVariants.{Inputs}
 use Rattle.derivation.specs.declared.spot.Spot.{Spot}
 use Rattle.canonical.specs.Meanings.{Meaning}
@@ -61,7 +62,7 @@ HashesFor v text rows hashes = (i : ℕ) (r : Placed Input) (x : Hash) → i < l
 abbrev pub FirstSpot : (ℕ → State) → Links → List (Placed Input) → Standing → Option Spot → Type 0
 FirstSpot row l inputs wanted None = FirstLink row l wanted None
 FirstSpot row l inputs wanted (Some w) =
-    (i : ℕ) × FirstLink row l wanted (Some i) × ((v : Placed Input) → w ≡ record { field = Inputs; row = i + 1; place = (slice_index_or inputs i v).place })
+    (i : ℕ) × FirstLink row l wanted (Some i) × ((v : Placed Input) → w ≡ record { field = field_number Inputs; row = i + 1; place = (slice_index_or inputs i v).place })
 
 -- the first of the questions with the answer no; of 20 a row whose file is settled without a hash or, if there is none, one whose file is not settled
 pub data LinksAsked (row : ℕ → State) (l : Links) (inputs : List (Placed Input)) (r : Option Fault) : Type 0 where

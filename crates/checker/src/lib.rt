@@ -22,3 +22,4 @@ pub use laws::{
 };
 pub use refused::{CallRefusal, OpenRefusal};
 pub use reports::report;
+pub use state::{Hashes, Settlement, State};

@@ -7,7 +7,7 @@ use Rattle.aterm.specs.Grammar.{Tree}
 use Rattle.aterm.specs.Files.{derivation}
 use Rattle.derivation.specs.declared.field.Field.TheVariants.{Outputs}
 use Rattle.derivation.specs.declared.spot.Spot.{Spot}
-use Rattle.derivation.specs.Asked.{FirstNo, First}
+use Rattle.derivation.specs.Asked.{field_number, FirstNo, First}
 use Rattle.derivation.specs.Questions.{Entry, all_outputs, output_row, input_row, source_row, variable_row, tagged, output_rows, input_rows, source_rows, variable_rows, entries, named, present}
 
 pub first_like : {E : Type 0} (Y Z : E → Type 0) → ((e : E) → Y e → Z e) → ((e : E) → Z e → Y e) → (rows : List (Spot × E)) (r : Option Spot) → First Y rows r → First Z rows r
@@ -95,7 +95,7 @@ module _ (Yes : Entry → Type 0) where
   first_else ps qs (Some w) r P f e g = subst (First Yes (ps ++ qs)) (sym e) (first_here ps qs w f)
 
 abbrev pub one : Tree derivation → Spot × Entry
-one x = (record { field = Outputs; row = 0; place = 0 }, all_outputs x.0)
+one x = (record { field = field_number Outputs; row = 0; place = 0 }, all_outputs x.0)
 
 module _ (x : Tree derivation) where
   abbrev pub outs : List (Spot × Entry)
@@ -111,7 +111,7 @@ module _ (x : Tree derivation) where
   vars = tagged variable_row (variable_rows x)
 
   -- 13
-  pub present_none : x.0 ≡ [] → FirstNo present (entries x) (record { field = Outputs; row = 0; place = 0 })
+  pub present_none : x.0 ≡ [] → FirstNo present (entries x) (record { field = field_number Outputs; row = 0; place = 0 })
   present_none e = record {
     before = [];
     row = all_outputs x.0;

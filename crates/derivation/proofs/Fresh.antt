@@ -15,13 +15,13 @@ module _ {V : Type 0} (s : Shape) (H : ℕ → V → Tree s → Type 0) (label :
   Differs y = meaning (label y) ≡ meaning (label x) → ⊥
 
   module _ (from : ℕ) (vs : List (Placed V)) (xs : List (Tree s)) (i : ℕ) (v : Placed V) (r : Split s H from vs xs i v) where
-    fresh_more : fresh label (take i xs) x → (meaning (label r.x) ≡ meaning (label x) → ⊥) → fresh label (take (suc i) xs) x
+    pub fresh_more : fresh label (take i xs) x → (meaning (label r.x) ≡ meaning (label x) → ⊥) → fresh label (take (suc i) xs) x
     fresh_more f n = subst (AllByRecursion Differs) (sym r.next) (All-push Differs (take i xs) r.x f n)
 
-    not_fresh : meaning (label r.x) ≡ meaning (label x) → fresh label xs x → ⊥
+    pub not_fresh : meaning (label r.x) ≡ meaning (label x) → fresh label xs x → ⊥
     not_fresh e f = at_middle Differs (take i xs) r.x r.after (subst (AllByRecursion Differs) r.whole f) e
 
-  fresh_all : (from : ℕ) (vs : List (Placed V)) (xs : List (Tree s)) (i : ℕ) → length vs ≤ i → Each s H from vs xs → fresh label (take i xs) x → fresh label xs x
+  pub fresh_all : (from : ℕ) (vs : List (Placed V)) (xs : List (Tree s)) (i : ℕ) → length vs ≤ i → Each s H from vs xs → fresh label (take i xs) x → fresh label xs x
   fresh_all from vs xs i h a f = subst (AllByRecursion Differs) (take_all i xs (omega (arith, each_length s H from vs xs a))) f
 
   -- the search for a row whose key means m, as x's does

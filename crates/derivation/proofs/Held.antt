@@ -1,8 +1,8 @@
 -- What a row that is held says of its tree.
 use Rattle.std.proofs.Common.{◌≡◌, ◌≢◌, ℕ, ◌+◌, ◌-◌, ◌≤◌, Bool, true, false, cond, not, T, eqb, leb, ◌⊎◌, List, [], ◌∷◌, ◌++◌, length, drop, codes, is_some, Some, None, Option, Decides, sym, refl, ap, ◌∙◌, SomeIff, ◌<◌, subst, inl, inr, ⊎_elim, arith, length-append, length-drop, length-take}
 use Rattle.std.proofs.lemmas.Bool.Decides.{Decides-eqb, Decides-not, Decides-at, Decides-like, leb_tells}
-use Rattle.aterm.specs.Grammar.{Shape, Tree}
-use Rattle.aterm.specs.Reads.{Each}
+use Rattle.aterm.specs.Grammar.{Shape, Tree, Char}
+use Rattle.aterm.specs.Reads.{Each, Spans}
 use Rattle.aterm.specs.declared.rows.Placed.{Placed}
 use Rattle.std.specs.Borrow.{Bor}
 use Rattle.std.specs.Option.{MatchOption, option_map, unwrap_or}
@@ -11,9 +11,21 @@ use Rattle.std.specs.List.{ContainsAt as Has, AllByRecursion}
 use Rattle.std.specs.Str.{bytes_eq}
 use Rattle.std.proofs.lemmas.Bool.{false≢true, false_from_ne_true}
 use Rattle.std.proofs.lemmas.Slice.Eq.{slice_eq-Decides, bytes_eq-Decides}
+use Rattle.derivation.specs.Asked.{Throughout}
 use Rattle.aterm.specs.Files.{output}
 use Rattle.derivation.specs.Questions.{Kind, md5, sha1, sha256, sha512, spelt, digits, hex, Given, name_length, output_name, stem, FixedFile, hashed}
 use Rattle.derivation.proofs.Scan.{each_length}
+
+-- whether a list of bytes is empty
+pub decides_empty : {X : Type 0} (xs : List X) (r : Bool) → r ≡ eqb (length xs) 0 → Decides r (xs ≡ [])
+decides_empty xs r e = Decides-like r (nil_from_length xs) (ap length) (Decides-at r (eqb (length xs) 0) e (Decides-eqb (length xs) 0))
+
+-- a string that was cut out is empty
+pub cut_empty : (bytes s : List ℕ) → bytes ≡ s → (r : Bool) → r ≡ eqb (length bytes) 0 → Decides r (s ≡ [])
+cut_empty bytes s e r q = decides_empty s r (q ∙ ap (λ l. eqb (length l) 0) e)
+
+pub span_in_order : {t : List ℕ} {at i j : ℕ} {cs : List Char} → Spans t at i j cs → i ≤ j
+span_in_order s = omega (arith, s.from, s.to)
 
 pub held_empty : {V : Type 0} (s : Shape) (H : ℕ → V → Tree s → Type 0) (from : ℕ) (vs : List (Placed V)) (xs : List (Tree s)) → Each s H from vs xs → (r : Bool) → r ≡ eqb (length vs) 0 → Decides r (xs ≡ [])
 held_empty s H from vs xs a r e =
@@ -97,6 +109,14 @@ flip a false e = sym (ap not e)
 pub is_some_map : {A B : Type 0} (f : A → B) (o : Option A) → is_some o ≡ is_some (option_map f o)
 is_some_map f None = refl
 is_some_map f (Some x) = refl
+
+pub fixed_from : (xs : List (Tree output)) → (length xs ≡ 1) × Throughout (λ ys x. hashed x) [] xs → FixedFile xs
+fixed_from [] p = absurd (omega (arith, p.0))
+fixed_from (x ∷ []) p = record { only = x; whole = refl; given = p.1.0 }
+fixed_from (x ∷ y ∷ xs) p = absurd (omega (arith, p.0))
+
+pub fixed_to : (xs : List (Tree output)) → FixedFile xs → (length xs ≡ 1) × Throughout (λ ys x. hashed x) [] xs
+fixed_to xs f = (ap length f.whole, subst (Throughout (λ ys x. hashed x) []) (sym f.whole) (f.given, tt))
 
 same : (x o : Tree output) → ◌≡◌ {A = List (Tree output)} (x ∷ []) (o ∷ []) → o ≡ x
 same x o e = cc

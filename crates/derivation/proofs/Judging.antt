@@ -46,7 +46,7 @@ same_number p q e = sym (asked_number p) ∙ ap asked e ∙ asked_number q
 
 -- what is so of each question before one is so of those before it
 module _ (Clear : Question → Type 0) where
-  up_to : (n : ℕ) → (13 < n → Clear Present) → (14 < n → Clear Formed) → (15 < n → Clear Different) → (16 < n → Clear Fixed) → (17 < n → Clear Short) → (p : Question) → number p < n → Clear p
+  pub up_to : (n : ℕ) → (13 < n → Clear Present) → (14 < n → Clear Formed) → (15 < n → Clear Different) → (16 < n → Clear Fixed) → (17 < n → Clear Short) → (p : Question) → number p < n → Clear p
   up_to n a b c d e Present h = a h
   up_to n a b c d e Formed h = b h
   up_to n a b c d e Different h = c h
@@ -103,7 +103,7 @@ module _ (path text : List ℕ) where
   Said d q = (x : Tree derivation) → in_derivation text 7 d x → Answer path x q None
 
   module _ (d : Derivation) (r : Reading text d) (reads : (g : TextFault) → IsFault text g → ⊥) where
-    row_refused : (q : Question) (w : Spot) → ((p : Question) → number p < number q → Answer path r.tree p None) → Answer path r.tree q (Some w) → IsFileFault path text (Row q w) × ((g : FileFault) → IsFileFault path text g → g ≡ Row q w)
+    pub row_refused : (q : Question) (w : Spot) → ((p : Question) → number p < number q → Answer path r.tree p None) → Answer path r.tree q (Some w) → IsFileFault path text (Row q w) × ((g : FileFault) → IsFileFault path text g → g ≡ Row q w)
     row_refused q w passed found = (this, other)
       where
         this : Refused path text q w
@@ -128,3 +128,10 @@ module _ (path text : List ℕ) where
         clear : (g : FileFault) → IsFileFault path text g → ⊥
         clear (Text g) h = reads g h
         clear (Row p v) h = not_both (Yes p path r.tree.0) (entries r.tree) v (subst (λ x. Answer path x p (Some v)) (r.only h.tree h.written) h.found) (passed p)
+
+pub below : (q : Question) → number q < 18
+below Present = omega arith
+below Formed = omega arith
+below Different = omega arith
+below Fixed = omega arith
+below Short = omega arith

@@ -1,6 +1,7 @@
 -- What a string's bytes mean.
-use Rattle.std.proofs.Common.{◌≡◌, ℕ, suc, false, nat_eq, Bool, List, [], ◌∷◌, Decides, refl, ap, ◌∙◌, arith}
+use Rattle.std.proofs.Common.{◌≡◌, ℕ, suc, false, nat_eq, Bool, List, [], ◌∷◌, Decides, sym, refl, ap, ◌∙◌, arith}
 use Rattle.std.specs.Iterator.{YieldsFirst, ComparesItemsByEq}
+use Rattle.std.proofs.lemmas.Bool.Decides.{Decides-like}
 use Rattle.std.proofs.lemmas.Iterator.Consumers.{YieldsList-from_first}
 use Rattle.aterm.specs.declared.meant.Meant.{Meant}
 use Rattle.aterm.specs.declared.part.Span.{Span}
@@ -23,6 +24,13 @@ key_decides text p v cs one other e s r ran =
     (YieldsList-from_first (λ x. x) meant_left (meaning cs) (span_meaning text p v cs one e s))
     (λ it i. YieldsList-from_first (λ x. x) meant_left (meant_left other) (ap meant_left i))
     r ran
+
+-- whether two strings that were cut out mean the same
+pub keys_decide : (a b : List ℕ) (cs ds : List Char) → a ≡ raw cs → b ≡ raw ds → (r : Bool) → Decides r (meant false a ≡ meant false b) → Decides r (meaning cs ≡ meaning ds)
+keys_decide a b cs ds e f r d =
+    let p : meant false a ≡ meaning cs = ap (meant false) e ∙ meant_raw cs in
+    let q : meant false b ≡ meaning ds = ap (meant false) f ∙ meant_raw ds in
+    Decides-like r (λ g. sym p ∙ g ∙ q) (λ g. p ∙ g ∙ sym q) d
 
 -- a string without backslash means the bytes that stand there
 pub plain_means : (cs : List Char) → Plain (raw cs) → meaning cs ≡ raw cs

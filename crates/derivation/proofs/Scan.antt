@@ -18,13 +18,13 @@ use Rattle.aterm.proofs.Lists.{ends}
 use Rattle.derivation.specs.declared.field.Field.{Field}
 use Rattle.derivation.specs.declared.spot.Spot.{Spot}
 use Rattle.std.proofs.lemmas.Bool.{false≢true}
-use Rattle.derivation.specs.Asked.{FirstNo, First, rows_at, Throughout}
+use Rattle.derivation.specs.Asked.{field_number, FirstNo, First, rows_at, Throughout}
 
 module _ (s : Shape) where
   pub rows_append : (field : Field) (at : ℕ) (earlier xs ys : List (Tree s)) → rows_at s field at earlier (xs ++ ys) ≡ rows_at s field at earlier xs ++ rows_at s field (ends s at xs) (earlier ++ xs) ys
   rows_append field at earlier [] ys = ap (λ l. rows_at s field at l ys) (sym (append-nil earlier))
   rows_append field at earlier (x ∷ xs) ys =
-      ap (λ l. (record { field = field; row = length earlier + 1; place = at }, (earlier, x)) ∷ l)
+      ap (λ l. (record { field = field_number field; row = length earlier + 1; place = at }, (earlier, x)) ∷ l)
       (rows_append field (past s at x) (earlier ++ x ∷ []) xs ys ∙ ap (λ l. rows_at s field (past s at x) (earlier ++ x ∷ []) xs ++ rows_at s field (ends s (past s at x) xs) l ys) (append_assoc earlier (x ∷ []) xs))
 
 module _ {V : Type 0} (s : Shape) (H : ℕ → V → Tree s → Type 0) where
@@ -83,7 +83,7 @@ module _ {V : Type 0} (s : Shape) (H : ℕ → V → Tree s → Type 0) where
   -- the row at a place, among the rows of the list
   module _ (field : Field) (from : ℕ) (vs : List (Placed V)) (xs : List (Tree s)) (i : ℕ) (v : Placed V) (r : Split from vs xs i v) where
     abbrev pub spot : Spot
-    spot = record { field = field; row = i + 1; place = v.place }
+    spot = record { field = field_number field; row = i + 1; place = v.place }
 
     abbrev pub rows_after : List (Spot × (List (Tree s) × Tree s))
     rows_after = rows_at s field (past s (ends s from (take i xs)) r.x) (take i xs ++ r.x ∷ []) r.after
@@ -94,15 +94,15 @@ module _ {V : Type 0} (s : Shape) (H : ℕ → V → Tree s → Type 0) where
         ∙ rows_append s field from [] (take i xs) (r.x ∷ r.after)
         ∙ ap (λ w. rows_at s field from [] (take i xs) ++ (w, (take i xs, r.x)) ∷ rows_after) same
       where
-        same : ◌≡◌ {A = Spot} (record { field = field; row = length (take i xs) + 1; place = ends s from (take i xs) }) spot
-        same = λ j. record { field = field; row = r.long j + 1; place = sym r.stands j }
+        same : ◌≡◌ {A = Spot} (record { field = field_number field; row = length (take i xs) + 1; place = ends s from (take i xs) }) spot
+        same = λ j. record { field = field_number field; row = r.long j + 1; place = sym r.stands j }
 
   module _ (Yes : List (Tree s) → Tree s → Type 0) (field : Field) where
     abbrev pub Clean : ℕ → List (Tree s) → Type 0
     Clean from xs = AllByRecursion (λ e. Yes e.1.0 e.1.1) (rows_at s field from [] xs)
 
     module _ (from : ℕ) (vs : List (Placed V)) (xs : List (Tree s)) (i : ℕ) (v : Placed V) (r : Split from vs xs i v) (c : Clean from (take i xs)) where
-      clean_more : Yes (take i xs) r.x → Clean from (take (suc i) xs)
+      pub clean_more : Yes (take i xs) r.x → Clean from (take (suc i) xs)
       clean_more y = subst (Clean from) (sym r.next) (subst (AllByRecursion (λ e. Yes e.1.0 e.1.1)) (sym (rows_append s field from [] (take i xs) (r.x ∷ []))) (All-append (λ e. Yes e.1.0 e.1.1) (rows_at s field from [] (take i xs)) (rows_at s field (ends s from (take i xs)) (take i xs) (r.x ∷ [])) c (y, tt)))
 
       -- it is the first of which the answer is no
@@ -168,7 +168,7 @@ module _ {V : Type 0} (s : Shape) (H : ℕ → V → Tree s → Type 0) (Yes : L
     clean_to : (i : ℕ) → i ≤ length vs → ((k : ℕ) → k < i → HoldsAt (Passed k) vs k) → Clean s H Yes field from (take i xs)
     clean_to = clean_before s H from vs xs a Yes field Passed (λ k v r p. p from (take k xs) (ends s from (take k xs) + 1) r.x r.front r.held)
 
-    pub first_found : (r : Option (ℕ × Bor (Placed V))) → FirstRow Failed Passed vs r → First (λ e. Yes e.0 e.1) (rows_at s field from [] xs) (option_map (λ p. record { field = field; row = p.0 + 1; place = p.1.now.place }) r)
+    pub first_found : (r : Option (ℕ × Bor (Placed V))) → FirstRow Failed Passed vs r → First (λ e. Yes e.0 e.1) (rows_at s field from [] xs) (option_map (λ p. record { field = field_number field; row = p.0 + 1; place = p.1.now.place }) r)
     first_found None p = clean_all s H Yes field from vs xs (length vs) (omega arith) a (clean_to (length vs) (omega arith) p)
     first_found (Some x) (failed, l, here, p) =
         let r = split_row s H from vs xs a x.0 x.1.now l here in

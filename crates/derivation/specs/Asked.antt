@@ -11,7 +11,15 @@ use Rattle.aterm.specs.Files.{output, input, in_output, in_input, span}
 use Rattle.aterm.specs.Reads.{Each, past}
 use Rattle.aterm.specs.declared.rows.Placed.{Placed}
 use Rattle.derivation.specs.declared.field.Field.{Field}
+use Rattle.derivation.specs.declared.field.Field.TheVariants.{Outputs, Inputs, Sources, Environment}
 use Rattle.derivation.specs.declared.spot.Spot.{Spot}
+
+-- the number of a field in which rows stand
+abbrev pub field_number : Field → ℕ
+field_number Outputs = 1
+field_number Inputs = 2
+field_number Sources = 3
+field_number Environment = 7
 
 -- the shape of rows, and what a row holds of a text
 pub record Holding (V : Type 0) : Type 1 where
@@ -45,7 +53,7 @@ module _ (s : Shape) (field : Field) where
   -- the rows of a list, the first of which begins at `at`: each with where it stands, and with the rows before it
   abbrev pub rows_at : ℕ → List (Tree s) → List (Tree s) → List (Spot × (List (Tree s) × Tree s))
   rows_at at earlier [] = []
-  rows_at at earlier (x ∷ xs) = (record { field = field; row = length earlier + 1; place = at }, (earlier, x)) ∷ rows_at (past s at x) (earlier ++ x ∷ []) xs
+  rows_at at earlier (x ∷ xs) = (record { field = field_number field; row = length earlier + 1; place = at }, (earlier, x)) ∷ rows_at (past s at x) (earlier ++ x ∷ []) xs
 
 module _ {V : Type 0} (s : Shape) (H : ℕ → V → Tree s → Type 0) where
   -- r says whether the answer is yes of the row v, after the rows vs
@@ -57,7 +65,7 @@ module _ {V : Type 0} (s : Shape) (H : ℕ → V → Tree s → Type 0) where
 
   -- the same of a row and how many come before it, whatever the field
   abbrev pub Finds : (List (Tree s) → Tree s → Type 0) → List (Placed V) → Option (ℕ × Bor (Placed V)) → Type 0
-  Finds Yes vs r = (field : Field) → Scans Yes field vs (option_map (λ p. record { field = field; row = p.0 + 1; place = p.1.now.place }) r)
+  Finds Yes vs r = (field : Field) → Scans Yes field vs (option_map (λ p. record { field = field_number field; row = p.0 + 1; place = p.1.now.place }) r)
 
 -- the answer is yes of each row, after those before it
 abbrev pub Throughout : {X : Type 0} → (List X → X → Type 0) → List X → List X → Type 0

@@ -7,8 +7,6 @@ use Rattle.aterm.specs.declared.fault.Cause.TheVariants.{Byte as WrongByte, Row 
 use Rattle.aterm.specs.declared.file.Derivation.{Derivation}
 use Rattle.aterm.specs.Grammar.{signs, Tree}
 use Rattle.aterm.specs.Files.{derivation, whole, in_derivation, IsFault, Reading}
-use Rattle.derivation.specs.declared.field.Field.{Field}
-use Rattle.derivation.specs.declared.field.Field.TheVariants.{Outputs, Inputs, Sources, Environment}
 use Rattle.derivation.specs.declared.spot.Spot.{Spot}
 use Rattle.derivation.specs.declared.question.Question.{Question}
 use Rattle.derivation.specs.declared.fault.FileFault.{FileFault}
@@ -23,15 +21,9 @@ abbrev pub text_number : Cause → ℕ
 text_number WrongByte = 11
 text_number RowTooMany = 12
 
-abbrev pub field_number : Field → ℕ
-field_number Outputs = 1
-field_number Inputs = 2
-field_number Sources = 3
-field_number Environment = 7
-
 abbrev pub details : FileFault → Told
 details (Text f) = record { number = text_number f.cause; layer = 2; field = 0; row = 0; place = f.place }
-details (Row q w) = record { number = number q; layer = 3; field = field_number w.field; row = w.row; place = w.place }
+details (Row q w) = record { number = number q; layer = 3; field = w.field; row = w.row; place = w.place }
 
 -- what is told where there is no fault
 abbrev pub no_details : Told

@@ -12,7 +12,7 @@ use Rattle.derivation.specs.declared.spot.Spot.{Spot}
 use Rattle.derivation.specs.declared.question.Question.{Question}
 use Rattle.derivation.specs.declared.question.Question.TheVariants.{Present, Formed, Different, Fixed, Short}
 use Rattle.store_path.specs.Names.{Name, StorePath, Drv}
-use Rattle.derivation.specs.Asked.{First, rows_at, Throughout}
+use Rattle.derivation.specs.Asked.{field_number, First, rows_at, Throughout}
 
 -- What a question is put to: the outputs as a whole, or a row of the fields 1, 2, 3 or 7 after the rows before it.
 pub data Entry : Type 0 where
@@ -59,7 +59,7 @@ variable_rows x = rows_at variable Environment (place_7 x + 1) [] x.1.1.1.1.1.1
 
 -- all that the questions are put to, in text order
 abbrev pub entries : Tree derivation → List (Spot × Entry)
-entries x = (record { field = Outputs; row = 0; place = 0 }, all_outputs x.0) ∷ (tagged output_row (output_rows x) ++ (tagged input_row (input_rows x) ++ (tagged source_row (source_rows x) ++ tagged variable_row (variable_rows x))))
+entries x = (record { field = field_number Outputs; row = 0; place = 0 }, all_outputs x.0) ∷ (tagged output_row (output_rows x) ++ (tagged input_row (input_rows x) ++ (tagged source_row (source_rows x) ++ tagged variable_row (variable_rows x))))
 
 -- 13: an output, and a name in each input row
 abbrev pub named : List (Tree input) → Tree input → Type 0

@@ -36,7 +36,7 @@ impl From<FileFault> for Told {
             FileFault::Row(question, spot) => Told {
                 number: question as u8,
                 layer: 3,
-                field: spot.field as u8,
+                field: spot.field,
                 row: spot.row,
                 place: spot.place,
             },

@@ -1,11 +1,11 @@
 -- The walk along the chain.
-use Rattle.std.proofs.Common.{◌≡◌, ℕ, ◌+◌, ◌<◌, ◌≤◌, Bool, true, false, ◌≢◌, List, length, get_or, take, set, Decides, sym, refl, ap, ◌∙◌, subst, inl, inr, add-one, arith, length-set, below_more}
+use Rattle.std.proofs.Common.{◌≡◌, ℕ, zero, suc, ◌+◌, ◌<◌, ◌≤◌, Bool, true, false, ◌≢◌, List, length, get_or, take, set, Decides, sym, refl, ap, ◌∙◌, subst, inl, inr, add-one, arith, length-set, below_more}
 use Rattle.std.proofs.lemmas.List.{get_or_default, get_or-take, get_or-set_same, get_or-set_other, length-take-le}
 use Rattle.std.proofs.lemmas.Bool.{cases_lt}
 use Rattle.std.proofs.lemmas.Bool.Decides.{not_from_Decides}
 use Rattle.std.specs.List.{ContainsAt as Has}
 use Rattle.image.specs.Layout.{slot_count, first_index, next_index, link, holder}
-use Rattle.image.specs.Chain.{Slotted, Good, BadLink}
+use Rattle.image.specs.Chain.{Slotted, Good, Chained, BadLink}
 use Rattle.image.proofs.Pigeons.{pigeons}
 
 pub link_none : (img : List ℕ) → first_index img ≡ link img 0
@@ -100,3 +100,8 @@ module _ (img slots : List ℕ) (n slot index count : ℕ) (r : Bool) (few : Slo
 
   pub test_bad : r ≡ false → BadLink img slot
   test_bad f = next_bad img slots n slot index few w some small (λ p. not_from_Decides r d f (omega (arith, p.0), p.1))
+
+-- a chain has no more files than the image has slots
+pub chain_few : (img : List ℕ) (n : ℕ) → Chained img n → n ≤ slot_count img
+chain_few img zero c = omega arith
+chain_few img (suc n) c = room img n (λ m h. c.good m (omega arith)) (c.good n (omega arith))

@@ -10,6 +10,7 @@ use Rattle.canonical.specs.Meanings.{an_output}
 use Rattle.canonical.specs.Order.{Member, Different}
 use Rattle.canonical.proofs.Members.{member_all}
 use Rattle.canonical.proofs.Spans.{span_means}
+use Rattle.derivation.specs.Asked.{field_number}
 use Rattle.derivation.specs.declared.field.Field.TheVariants.{Environment}
 use Rattle.derivation.proofs.Scan.{Split, Clean, spot}
 use Rattle.hash_modulo.specs.Sets.{Bytes}
@@ -54,7 +55,7 @@ module _ (path text : Bytes) (os : List (Value an_output)) (ds : List Digits) (n
       here (take i vs, r.x) (row_stands variable (in_variable text) Environment at us vs i u r) (sym name_there ∙ e),
     )
 
-  pub no_row : Clean variable (in_variable text) (Unnamed n) Environment at vs → VariableTold path os ds at vs n (Some (record { field = Environment; row = 0; place = 0 }))
+  pub no_row : Clean variable (in_variable text) (Unnamed n) Environment at vs → VariableTold path os ds at vs n (Some (record { field = field_number Environment; row = 0; place = 0 }))
   no_row c =
       let none = each variable Environment (λ v. meaning v.0 ≡ n → ⊥) at [] vs c in
       (λ z. none z.0 z.1 z.2, nowhere none refl)

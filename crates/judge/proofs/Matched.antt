@@ -21,18 +21,18 @@ next_matched xs x b rest e = either (eqb x b) ∙ sym (ap (λ (l : List ℕ). ma
 
 -- ---- all bytes
 
-stays : (ys : List ℕ) → steps matching [] ys ≡ []
+pub stays : (ys : List ℕ) → steps matching [] ys ≡ []
 stays [] = refl
 stays (y ∷ ys) = stays ys
 
-all_same : (xs ys : List ℕ) → xs ≡ ys → steps matching (0 ∷ xs) ys ≡ 0 ∷ []
+pub all_same : (xs ys : List ℕ) → xs ≡ ys → steps matching (0 ∷ xs) ys ≡ 0 ∷ []
 all_same xs ys e = ap (λ (l : List ℕ). steps matching (0 ∷ l) ys) e ∙ whole ys
   where
     whole : (l : List ℕ) → steps matching (0 ∷ l) l ≡ 0 ∷ []
     whole [] = refl
     whole (x ∷ l) = ap (λ (s : List ℕ). steps matching s l) (cond-true (eqb x x) (0 ∷ l) [] (eq-eqb x x refl)) ∙ whole l
 
-only_same : (xs ys : List ℕ) → steps matching (0 ∷ xs) ys ≡ 0 ∷ [] → xs ≡ ys
+pub only_same : (xs ys : List ℕ) → steps matching (0 ∷ xs) ys ≡ 0 ∷ [] → xs ≡ ys
 only_same [] [] e = refl
 only_same (x ∷ xs) [] e = let z : ◌≡◌ {A = ℕ} 0 1 = cc in absurd (omega arith)
 only_same [] (y ∷ ys) e = let f : ◌≡◌ {A = List ℕ} [] (0 ∷ []) = sym (stays ys) ∙ e in let z : ◌≡◌ {A = ℕ} 0 1 = cc in absurd (omega arith)
@@ -60,7 +60,7 @@ meant_short false (c ∷ bs) =
     let k = meant_short false bs in
     cond_both (eqb c 92) (meant true bs) (c ∷ meant false bs) (λ l. length l ≤ length (c ∷ bs)) (λ _. omega arith) (λ _. omega arith)
 
-said_short : (t : List ℕ) (at stop : ℕ) → length (said t at stop) ≤ length t
+pub said_short : (t : List ℕ) (at stop : ℕ) → length (said t at stop) ≤ length t
 said_short t at stop =
     let h = meant_short false (take (stop - at) (drop at t)) in
     let k = length-take (stop - at) (drop at t) in

@@ -13,7 +13,7 @@ name_apart path digits name a =
     let long : length front ≡ 44 = (let l = length-append digits (45 ∷ []) in let k = a.long in omega arith) in
     ap (drop 44) (a.whole ∙ regroup) ∙ drop_at front name 44 long
 
-own_decided : (path digits name own : List ℕ) (r : Bool) → Apart path digits name → Decides r (digits ≡ own) → Decides r (path ≡ full_store_path own (file_name path))
+pub own_decided : (path digits name own : List ℕ) (r : Bool) → Apart path digits name → Decides r (digits ≡ own) → Decides r (path ≡ full_store_path own (file_name path))
 own_decided path digits name own r a d =
     let e = name_apart path digits name a in (
       λ t. a.whole ∙ (λ i. full_store_path (d.0 t i) (sym e i)),

@@ -21,6 +21,9 @@ use Rattle.judge.specs.Stated.{RightFor, Told}
 use Rattle.judge.specs.declared.right_outputs.RightOutputs.{RightOutputs}
 use Rattle.judge.proofs.Standing.{blank_output, output_name_there, output_path_there}
 
+pub refuted : {P : Type 0} → (P → ⊥) → Decides false P
+refuted f = (λ e. absurd (false≢true e), λ p. absurd (f p))
+
 pub right_moved : {path : Bytes} {os : List (Value an_output)} {ds : List Digits} (a b p q : Bytes) → a ≡ b → p ≡ q → RightFor path os ds a p → RightFor path os ds b q
 right_moved {path} {os} {ds} a b p q e f w = subst (λ (n : Bytes). RightFor path os ds n q) e (subst (λ (z : Bytes). RightFor path os ds a z) f w)
 

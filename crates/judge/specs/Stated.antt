@@ -10,7 +10,7 @@ use Rattle.aterm.specs.declared.rows.Placed.{Placed}
 use Rattle.canonical.specs.Kinds.{Value}
 use Rattle.canonical.specs.Meanings.{an_output}
 use Rattle.canonical.specs.Order.{Member, Different}
-use Rattle.derivation.specs.Asked.{FirstNo, First, rows_at}
+use Rattle.derivation.specs.Asked.{field_number, FirstNo, First, rows_at}
 use Rattle.derivation.specs.Questions.{output_name}
 use Rattle.derivation.specs.declared.field.Field.TheVariants.{Outputs, Environment}
 use Rattle.derivation.specs.declared.spot.Spot.{Spot}
@@ -25,7 +25,7 @@ use Rattle.judge.specs.declared.right_outputs.RightOutputs.{RightOutputs}
 -- where the environment has a name, among rows of which the first begins at a place
 pub data StandsAt (at : ℕ) (vs : List (Tree variable)) (n : Bytes) : Spot → Type 0 where
   here : {w : Spot} (e : Behind (Tree variable)) → Member (w, e) (rows_at variable Environment at [] vs) → meaning e.1.0 ≡ n → StandsAt at vs n w
-  nowhere : {w : Spot} → ((v : Tree variable) → Member v vs → meaning v.0 ≢ n) → w ≡ record { field = Environment; row = 0; place = 0 } → StandsAt at vs n w
+  nowhere : {w : Spot} → ((v : Tree variable) → Member v vs → meaning v.0 ≢ n) → w ≡ record { field = field_number Environment; row = 0; place = 0 } → StandsAt at vs n w
 
 -- of the file at a path with these outputs, rising, and the digits beside them
 module _ (path : Bytes) (os : List (Value an_output)) (ds : List Digits) where

@@ -15,7 +15,7 @@ use Rattle.store_path.specs.Names.{StorePath}
 use Rattle.store_path.proofs.Deciding.{same_text}
 use Rattle.links.specs.Laws.{FileOf, SetFinite, SetHas, SetOnly, OneNumber, PathsNamed, Among, SamePairs}
 use Rattle.links.specs.Owners.{Stands}
-use Rattle.links.specs.Sets.{set_of, Found, FoundFile}
+use Rattle.links.specs.Sets.{set_of, Nowhere, Found, FoundFile}
 
 -- no two of the first n files have the same path
 abbrev pub Apart : List ℕ → ℕ → Type 0
@@ -87,6 +87,14 @@ set_has img n opens k from to = has img n (one_number img n opens) k from to (fi
 
 pub set_finite : SetFinite
 set_finite img n opens = (paths img n, λ p z. (let f = only img n p z.0 z.1 in listed img n f.number f.from f.to p f.path))
+
+-- where none of them has the path, no text is there
+pub none_there : (img : List ℕ) (n : ℕ) (p t : Bytes) → Nowhere img n p → set_of img n p ≡ Some t → ⊥
+none_there img n p t no-file e = let f = only img n p t e in no-file f.number f.from f.to f.path
+
+pub not_there : (img : List ℕ) (n : ℕ) (p : Bytes) (o : Option ℕ) → Found img n p o → ((number : ℕ) → o ≡ Some number → 1 ≤ number → number ≤ n → ⊥) → (t : Bytes) → set_of img n p ≡ Some t → ⊥
+not_there img n p None found out t e = none_there img n p t found e
+not_there img n p (Some number) (from, to, is) out t e = out number refl from to
 
 -- the file of a number that was found
 pub found_there : (img : List ℕ) (n : ℕ) (p : Bytes) (number : ℕ) → Found img n p (Some number) → ∥ Opens img n ∥₁ → set_of img n p ≡ Some (file_text img number)

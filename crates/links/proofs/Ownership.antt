@@ -21,6 +21,10 @@ use Rattle.verdict.proofs.Meant.{output_there, output_back}
 use Rattle.links.specs.Owners.{OwnsOutput}
 use Rattle.links.proofs.Names.{member_map, map_member}
 
+-- a file that is not there owns what is wanted
+pub owned_absent : (set : Files) (p : Bytes) (ns : List Bytes) → ((t : Bytes) → set p ≡ Some t → ⊥) → Owned set (p, ns)
+owned_absent set p ns none m f n i = absurd (none f.text f.at)
+
 module _ (set : Files) (p text : Bytes) (there : set p ≡ Some text) where
   read_here : (m : Meaning) → sets.Means set p m → Reads p text m
   read_here m f = subst (λ (t : Bytes). Reads p t m) (one_text (set p) f.text text f.at there) f.reads

@@ -59,10 +59,15 @@ fn push_source(to: &mut String, i: u8) -> anyhow::Result<()> {
     Ok(())
 }
 
-fn push_variable(to: &mut String, i: u8, count: usize) -> anyhow::Result<()> {
+fn push_value(to: &mut String, value: &str) -> anyhow::Result<()> {
+    to.push_str(value)?;
+    Ok(())
+}
+
+fn push_variable(to: &mut String, i: u8, value: &str) -> anyhow::Result<()> {
     let number = u32::from(i) * 37 % 128;
     write!(to, "(\"v{number:03}\",")?;
-    push_string(to, count)?;
+    push_value(to, value)?;
     to.push(')')?;
     Ok(())
 }
@@ -73,6 +78,9 @@ fn push_variable(to: &mut String, i: u8, count: usize) -> anyhow::Result<()> {
 pub fn make(heap: Global, size: usize) -> anyhow::Result<String> {
     let each = (size / 192).saturating_sub(23);
     let count = each - each / 21;
+    // Each argument and each variable has the same string, which is made once.
+    let mut value = String::new(heap);
+    push_string(&mut value, count)?;
     let mut made = String::new(heap);
     made.push_str("Derive([(\"out\",\"")?;
     push_store(&mut made, 0)?;
@@ -81,9 +89,9 @@ pub fn make(heap: Global, size: usize) -> anyhow::Result<String> {
     made.push_str("],[")?;
     push_list(&mut made, 16, push_source)?;
     made.push_str("],\"x86_64-linux\",\"/bin/sh\",[")?;
-    push_list(&mut made, 64, |to, _| push_string(to, count))?;
+    push_list(&mut made, 64, |to, _| push_value(to, value.as_str()))?;
     made.push_str("],[")?;
-    push_list(&mut made, 128, |to, i| push_variable(to, i, count))?;
+    push_list(&mut made, 128, |to, i| push_variable(to, i, value.as_str()))?;
     made.push_str("])")?;
     Ok(made)
 }

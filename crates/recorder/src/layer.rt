@@ -53,7 +53,8 @@ impl<S: DigestSink> DigestSink for Recorder<S> {
 
 impl<S: DigestSink> Recorder<S> {
     pub fn new(below: S) -> Recorder<S>
-        ensures { holding S.Sink.held result ≡ recorded 0 (zeros 4096) (S.Sink.held below) }
+        ensures begun { (result.table.count ≡ 0) × (result.table.bytes ≡ zeros 4096) × (result.below ≡ below) }
+        ensures holds { holding S.Sink.held result ≡ recorded 0 (zeros 4096) (S.Sink.held below) }
     {
         Recorder {
             table: Table::default(),

@@ -1,5 +1,6 @@
 -- Rows beside the hashes of their files: as many, and of 32 bytes each; so the texts with hashes are short.
 use Rattle.std.proofs.Common.{◌≡◌, ℕ, ◌<◌, List, [], ◌∷◌, length, ap, ◌∙◌, inl, inr, arith}
+use Rattle.std.proofs.lemmas.List.{length-map}
 use Rattle.canonical.specs.Meanings.{Meaning, canonical}
 use Rattle.canonical.specs.Order.{Member}
 use Rattle.hash_rows.specs.declared.hash.Hash.{Hash}
@@ -9,6 +10,10 @@ use Rattle.hash_modulo.specs.Sets.{Bytes, Row}
 use Rattle.hash_modulo.proofs.Lengths.{hash_text_short, masked_text_short}
 use Rattle.right_paths.specs.Inputs.{Aligned, RowsRight}
 use Rattle.right_paths.specs.Worked.{Workable}
+
+pub as_many : (g : Bytes → Bytes) (rows : List Row) (hashes : List Hash) → Aligned g rows hashes → length hashes ≡ length rows
+as_many g rows hashes e =
+    omega (arith, ap length e, length-map rows (λ (r : Row). g r.0), length-map hashes (λ (h : Hash). h.bytes))
 
 wide : (g : Bytes → Bytes) (rows : List Row) (hashes : List Hash) → Aligned g rows hashes → (r : Row) → Member r rows → length (g r.0) ≡ 32
 wide g [] hashes e r i = absurd i

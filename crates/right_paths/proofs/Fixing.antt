@@ -1,5 +1,5 @@
 -- The output of a fixed file is its first row, and the strings of a fixed file are short.
-use Rattle.std.proofs.Common.{◌≡◌, ℕ, ◌≤◌, ◌⊎◌, Bool, true, false, not, List, [], ◌∷◌, map, length, codes, Some, Decides, MatchOption, sym, refl, ap, ◌∙◌, subst, inl, inr, arith}
+use Rattle.std.proofs.Common.{◌≡◌, ℕ, zero, suc, ◌≤◌, ◌⊎◌, Bool, true, false, not, List, [], ◌∷◌, map, length, get_or, take, codes, Some, Decides, MatchOption, sym, refl, ap, ◌∙◌, subst, inl, inr, arith}
 use Rattle.std.specs.List.{AllByRecursion, slice_get}
 use Rattle.std.specs.Bool.{then_some}
 use Rattle.canonical.specs.Kinds.{Value}
@@ -13,6 +13,9 @@ use Rattle.right_paths.specs.Worked.{FixedBy, FixedShort}
 
 other : ◌≡◌ {A = Bool} false true → ⊥
 other e = cc
+
+clash : ◌≡◌ {A = ℕ} 0 1 → ⊥
+clash e = omega arith
 
 -- an algorithm has a name
 some_name : (k : Kind) → 1 ≤ length (spelt k)
@@ -46,6 +49,17 @@ module _ {X Y : Type 0} (of : X → Y) (F : Y → Value an_output) (m : Meaning)
     | inl z ↦ (z, same z)
     | inr all ↦ absurd (other (blank.1 (subst (AllByRecursion Blank) those.1 all).0.0))
   ]
+
+module _ {X : Type 0} (F : X → Value an_output) where
+  pub fixed_none : (m : Meaning) (xs : List X) → m.0 ≡ map F xs → length xs ≡ 0 → Fixed m → ⊥
+  fixed_none m [] rows none x = let y = x.whole in let only = x.only in let z : ◌≡◌ {A = ℕ} 0 1 = cc in clash z
+  fixed_none m (v ∷ xs) rows none x = omega arith
+
+  -- the only output is the first row
+  pub first_only : (n : ℕ) (xs : List X) (o : Value an_output) (d : X) → map F (take n xs) ≡ o ∷ [] → F (get_or xs 0 d) ≡ o
+  first_only zero xs o d e = absurd (clash (cc))
+  first_only (suc n) [] o d e = absurd (clash (cc))
+  first_only (suc n) (x ∷ xs) o d e = cc
 
 pub paths_short : {path : Bytes} {m : Meaning} → Limits path m → (x : Fixed m) → FixedShort path x.only
 paths_short l x = record {

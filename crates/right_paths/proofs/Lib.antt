@@ -13,4 +13,5 @@ pub mod Outcomes
 pub mod Pourings
 pub mod Rounds
 pub mod Sayings
+pub mod Stringing
 pub mod Workings

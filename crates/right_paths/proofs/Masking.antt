@@ -1,5 +1,5 @@
 -- Rows that are changed one after the other, and the test whether a name is an output's.
-use Rattle.std.proofs.Common.{◌≡◌, ℕ, ◌<◌, Bool, true, false, List, [], ◌∷◌, map, length, Decides, refl}
+use Rattle.std.proofs.Common.{◌≡◌, ℕ, ◌<◌, Bool, true, false, List, [], ◌∷◌, map, length, Ordering, Equal, Decides, sym, refl, ◌∙◌}
 use Rattle.std.specs.Bool.{MatchBool}
 use Rattle.std.specs.List.{AllWithin, AllZip, HoldsAt}
 use Rattle.std.specs.Str.{bytes_eq}
@@ -11,6 +11,8 @@ use Rattle.aterm.specs.declared.rows.Placed.{Placed}
 use Rattle.canonical.specs.Files.{values}
 use Rattle.canonical.specs.Kinds.{Value}
 use Rattle.canonical.specs.Meanings.{an_output}
+use Rattle.canonical.specs.Order.{Compared}
+use Rattle.canonical.proofs.Orders.{compared_is}
 use Rattle.hash_modulo.specs.Paths.{is_output}
 
 -- rows that are changed one by one are those of the changed list
@@ -34,3 +36,7 @@ module _ {X : Type 0} (f : X → Value an_output) (n : List ℕ) where
   named_any xs r m =
       same_from_decides r (is_output (map f xs) n) (found xs r m)
       (Decides-by_or (λ x. bytes_eq (f x).0 n) named (λ ys. is_output (map f ys) n) (λ x. bytes_eq-Decides (f x).0 n) refl (λ _ _. refl) xs)
+
+-- two strings whose order is not `Equal` differ
+pub not_equal : {a b : List ℕ} (o : Ordering) → Compared a b o → (o ≡ Equal → ⊥) → a ≡ b → ⊥
+not_equal {a} {b} o c n e = n (compared_is a b o c ∙ sym (compared_is a b Equal e))

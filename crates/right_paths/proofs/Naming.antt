@@ -7,6 +7,9 @@ use Rattle.std.proofs.lemmas.Slice.Eq.{bytes_eq-Decides}
 use Rattle.std.proofs.lemmas.List.{take_all, drop_all, length-drop}
 use Rattle.derivation.specs.Questions.{stem, output_name}
 
+pub name_out : (path out : List ℕ) → out ≡ codes "out" → stem path ≡ output_name path out
+name_out path out e = sym (ap (λ (b : Bool). cond b (stem path) (stem path ++ 45 ∷ out)) ((bytes_eq-Decides out (codes "out")).1 e))
+
 pub name_other : (path out : List ℕ) → (out ≡ codes "out" → ⊥) → stem path ++ 45 ∷ out ≡ output_name path out
 name_other path out ne = sym (ap (λ (b : Bool). cond b (stem path) (stem path ++ 45 ∷ out)) (false_from_ne_true (bytes_eq out (codes "out")) (λ t. ne ((bytes_eq-Decides out (codes "out")).0 t))))
 

@@ -1,5 +1,6 @@
 -- Strings that are digested one after the other: their lengths, and what the sink holds at the end.
-use Rattle.std.proofs.Common.{◌≡◌, ℕ, ◌+◌, ◌%◌, ◌^◌, List, [], ◌∷◌, ◌++◌, length, sym, refl, ap, ◌∙◌, subst, arith}
+use Rattle.std.proofs.Common.{◌≡◌, ℕ, ◌+◌, ◌*◌, ◌%◌, ◌^◌, ◌<◌, ◌≤◌, List, [], ◌∷◌, ◌++◌, length, sym, refl, ap, ◌∙◌, subst, arith}
+use Rattle.std.specs.List.{AllByRecursion}
 use Rattle.sink.specs.Digest.{begun}
 use Rattle.sink.specs.Write.{Step, Meaning, written}
 use Rattle.hash_modulo.specs.Sets.{Bytes}
@@ -10,6 +11,10 @@ use Rattle.right_paths.specs.Worked.{PoursAll, LocatedBy, HoldsLast}
 pub lengths_append : (ss ts : List Bytes) → all_lengths (ss ++ ts) ≡ all_lengths ss + all_lengths ts
 lengths_append [] ts = omega arith
 lengths_append (s ∷ ss) ts = let h = lengths_append ss ts in omega arith
+
+pub lengths_short : (ss : List Bytes) → AllByRecursion (λ (s : Bytes). length s < 1048576) ss → all_lengths ss ≤ 1048576 * length ss
+lengths_short [] a = omega arith
+lengths_short (s ∷ ss) a = let h = lengths_short ss a.1 in let k : length s < 1048576 = a.0 in omega arith
 
 module _ (f : Step) (start : List ℕ) (capacity : ℕ) where
   pub poured_append : (m : Meaning) (ss ts : List Bytes) → poured f start capacity m (ss ++ ts) ≡ poured f start capacity (poured f start capacity m ss) ts

@@ -1,5 +1,5 @@
 -- The paths of the outputs of a file that is not fixed, one after the other.
-use Rattle.std.proofs.Common.{◌≡◌, ℕ, ◌+◌, ◌*◌, ◌<◌, ◌≤◌, ◌≢◌, List, [], ◌∷◌, ◌++◌, map, length, get_or, take, set, codes, sym, ap, ◌∙◌, subst, arith, length-set, below_more}
+use Rattle.std.proofs.Common.{◌≡◌, ℕ, ◌+◌, ◌*◌, ◌<◌, ◌≤◌, ◌≢◌, List, [], ◌∷◌, ◌++◌, map, length, get_or, take, set, codes, sym, refl, ap, ◌∙◌, subst, arith, length-set, below_more}
 use Rattle.std.specs.List.{AllByRecursion}
 use Rattle.std.proofs.ByRecursion.{All-get_or}
 use Rattle.std.proofs.lemmas.List.{map_more, get_or-map, length-map, take_all, get_or-set_same, get_or-set_other}
@@ -41,6 +41,9 @@ module _ (f : Step) (start : List ℕ) (capacity : ℕ) (answer : List ℕ → L
     pub pours : PoursAll f start capacity answer before (map (by_hash path h) (take i os)) n after
 
 module _ {f : Step} {start : List ℕ} {capacity : ℕ} {answer : List ℕ → List ℕ} {path h : Bytes} {os : List (Value an_output)} {before : Meaning} where
+  pub upto_none : {digits : List Digits} → length digits ≡ 16 → Upto f start capacity answer path h os before 0 digits 0 before
+  upto_none w = record { wide = w; few = omega arith; each = λ k z. absurd (omega arith); pours = record { count = refl; sink = refl } }
+
   pub upto_more : {i n k : ℕ} {digits : List Digits} {middle after : Meaning} (v : Digits) (o : Value an_output) → Upto f start capacity answer path h os before i digits n middle
       → i < length os → i < 16 → o ≡ get_or os i no_output → LocatedBy f start capacity answer middle (by_hash path h o) v.bytes k after → length (by_hash path h o) < 1048576
       → Upto f start capacity answer path h os before (i + 1) (set digits i v) (n + k) after

@@ -7,7 +7,7 @@ use Rattle.canonical.specs.Kinds as kinds
 use Rattle.canonical.specs.Kinds.{Value, rising}
 use Rattle.canonical.specs.Meanings.{an_output, a_variable, Meaning, canonical}
 use Rattle.canonical.proofs.Members.{same_refl}
-use Rattle.derivation.specs.Asked.{Throughout}
+use Rattle.derivation.specs.Asked.{field_number, Throughout}
 use Rattle.derivation.specs.Questions.{different_variable, md5, sha1, sha256, sha512, Given}
 use Rattle.derivation.specs.declared.field.Field.TheVariants.{Environment}
 use Rattle.derivation.specs.declared.spot.Spot.{Spot}
@@ -218,10 +218,10 @@ bare_means : Means (only_file path bare_text) path (meant_by [])
 unfolding path bare_text
 bare_means = record { text = bare_text; at = refl; reads = reads bare_text [] [] refl tt (lit≤ tt, tt) ([], (tt, record { same = same_refl []; rises = tt })) }
 
-pub wrong : VerdictIs (only_file path bare_text) path (Err (WrongVariable (record { field = Environment; row = 0; place = 0 })))
+pub wrong : VerdictIs (only_file path bare_text) path (Err (WrongVariable (record { field = field_number Environment; row = 0; place = 0 })))
 unfolding bare_means reads
 wrong =
-    let w : Spot = record { field = Environment; row = 0; place = 0 } in
+    let w : Spot = record { field = field_number Environment; row = 0; place = 0 } in
     let o : OutputPath zero_answer path (λ _. []) (meant_by []) an_out out_path = output_right [] (λ _. []) in
     only (only_file path bare_text) path (Err (WrongVariable w)) (variable_not w)
     (hashed (meant_by []) bare_means tt tt (λ _. []) (λ r i. absurd i)

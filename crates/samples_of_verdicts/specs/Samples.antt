@@ -6,6 +6,7 @@ use Rattle.std.specs.Str.{bytes_eq}
 use Rattle.aterm.specs.Grammar.{Char, raw, meaning}
 use Rattle.canonical.specs.Decode.{said}
 use Rattle.canonical.specs.Strings.{quoted}
+use Rattle.derivation.specs.Asked.{field_number}
 use Rattle.derivation.specs.declared.field.Field.TheVariants.{Environment}
 use Rattle.hash_modulo.specs.Sets.{Bytes, Files}
 use Rattle.store_path.specs.Base32.{base32, fold}
@@ -61,7 +62,7 @@ samples =
     ∷ sample (fold (replicate 32 1)) (replicate 12 0 ++ replicate 8 1)
     ∷ string (codes "\"\\a\"") (codes "a") (codes "\"a\"")
     ∷ judged (only_file path right_text) path (Ok tt)
-    ∷ judged (only_file path bare_text) path (Err (WrongVariable (record { field = Environment; row = 0; place = 0 })))
+    ∷ judged (only_file path bare_text) path (Err (WrongVariable (record { field = field_number Environment; row = 0; place = 0 })))
     ∷ []
 
 -- each is as it is wanted

@@ -21,6 +21,13 @@ fn make(heap: Global, size: usize) -> Result<Vec<u8>, AllocError>
     (0..size).map(|i| (i % 251) as u8).collect(heap)
 }
 
+// What is digested.
+fn message(heap: Global) -> Result<Vec<u8>, AllocError>
+    ensures { IfOk result (λ v. v.items ≡ sample 16777216) }
+{
+    make(heap, SIZE)
+}
+
 // The digest of `bytes`, taken `times` times, and once where `times` is 0.
 fn digest_again(bytes: &[u8], times: u32) -> Result<[u8; 32], Full>
     ensures { MatchResult result (λ d. d ≡ fips.digest bytes.now) (λ _. 16777216 < length bytes.now) }
@@ -30,9 +37,10 @@ fn digest_again(bytes: &[u8], times: u32) -> Result<[u8; 32], Full>
 }
 
 fn run(rt: &HostRuntime) -> anyhow::Result<()> {
+    // Want of memory is told before an argument that is no number.
+    let message = message(rt.alloc())?;
     let times = number(env::args(rt)?.nth(1), 1)?;
-    let made = make(rt.alloc(), SIZE)?;
-    let digest = digest_again(&made, times).map_err(|_| anyhow!("too long"))?;
+    let digest = digest_again(&message, times).map_err(|_| anyhow!("too long"))?;
     println!(rt; "{}", Hex(&digest))?;
     Ok(())
 }

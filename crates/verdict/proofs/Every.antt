@@ -3,7 +3,7 @@ use Rattle.std.proofs.Common.{[], None, sym, refl, subst, inl, inr, Ok, Err}
 use Rattle.aterm.specs.Files.{input, variable, derivation}
 use Rattle.aterm.specs.Grammar.{Tree, meaning}
 use Rattle.canonical.specs.Meanings.{Meaning, canonical}
-use Rattle.derivation.specs.Asked.{First, FirstNo}
+use Rattle.derivation.specs.Asked.{field_number, First, FirstNo}
 use Rattle.derivation.specs.Questions.{output_rows, input_rows}
 use Rattle.derivation.specs.declared.field.Field.TheVariants.{Inputs, Environment}
 use Rattle.derivation.specs.declared.spot.Spot.{Spot}
@@ -28,7 +28,7 @@ use Rattle.verdict.proofs.Texts.{differ?}
 variable_at : (x : Tree derivation) (n : Bytes) → (w : Spot) × VariableAt x n w
 variable_at x n = elim (keyed? variable Environment (λ v. v.0) n _ [] x.1.1.1.1.1.1) [
   | inl k ↦ (k.spot, at k.row k.stands k.has)
-  | inr none ↦ (record { field = Environment; row = 0; place = 0 }, nowhere none refl)
+  | inr none ↦ (record { field = field_number Environment; row = 0; place = 0 }, nowhere none refl)
 ]
 
 module _ (d : Digest) (p text : Bytes) (x : Tree derivation) (g : Bytes → Bytes) (m : Meaning) where

@@ -8,7 +8,7 @@ use Rattle.canonical.specs.Differences.{DifferAt}
 use Rattle.canonical.specs.Kinds.{Value}
 use Rattle.canonical.specs.Meanings.{an_output, Meaning, canonical}
 use Rattle.canonical.specs.Order.{Member}
-use Rattle.derivation.specs.Asked.{FirstNo, First}
+use Rattle.derivation.specs.Asked.{field_number, FirstNo, First}
 use Rattle.derivation.specs.Judgement.{IsFileFault}
 use Rattle.derivation.specs.Questions.{output_rows, input_rows, variable_rows}
 use Rattle.derivation.specs.declared.fault.FileFault.{FileFault}
@@ -61,7 +61,7 @@ module _ (d : Digest) (p : Bytes) (g : Bytes → Bytes) (m : Meaning) where
 pub data VariableAt (x : Tree derivation) (n : Bytes) : Spot → Type 0 where
   at : {w : Spot} (e : Behind (Tree variable)) → Member (w, e) (variable_rows x) → meaning e.1.0 ≡ n → VariableAt x n w
   nowhere : {w : Spot} → ((v : Tree variable) → Member v x.1.1.1.1.1.1 → meaning v.0 ≢ n)
-      → w ≡ record { field = Environment; row = 0; place = 0 } → VariableAt x n w
+      → w ≡ record { field = field_number Environment; row = 0; place = 0 } → VariableAt x n w
 
 -- questions 21 to 24 to the file at p with the text and the tree x that means m, where g has the hashes of its inputs
 pub data PathsJudged (d : Digest) (p text : Bytes) (x : Tree derivation) (g : Bytes → Bytes) (m : Meaning) : Verdict → Type 0 where

@@ -1,7 +1,7 @@
 -- What a verdict is told by: its number, layer, field, row and place.
 -- Source: this project's own rule (docs/CALLS.md, "Verdict").
 use Rattle.std.specs.Prelude.{ℕ, Ok, Err, Result}
-use Rattle.derivation.specs.Judgement.{details, field_number}
+use Rattle.derivation.specs.Judgement.{details}
 use Rattle.derivation.specs.declared.spot.Spot.{Spot}
 use Rattle.derivation.specs.declared.told.Told.{Told}
 use Rattle.verdict.specs.declared.fault.Fault.{Fault}
@@ -13,7 +13,7 @@ Verdict = Result (Unit {0}) Fault
 
 -- a fault at a row
 abbrev pub told_row : ℕ → ℕ → Spot → Told
-told_row number layer w = record { number = number; layer = layer; field = field_number w.field; row = w.row; place = w.place }
+told_row number layer w = record { number = number; layer = layer; field = w.field; row = w.row; place = w.place }
 
 -- a fault of the whole file
 abbrev pub told_file : ℕ → ℕ → Told

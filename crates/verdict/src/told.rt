@@ -13,7 +13,7 @@ fn tell_row(number: u8, layer: u8, spot: Spot) -> Told
     Told {
         number,
         layer,
-        field: spot.field as u8,
+        field: spot.field,
         row: spot.row,
         place: spot.place,
     }

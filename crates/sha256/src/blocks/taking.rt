@@ -59,7 +59,8 @@ impl Blocks {
         self.filled = rest.len();
     }
 
-    // Takes any bytes.
+    // Takes any bytes. Inlined into a write, so that a write of one byte is compiled as such.
+    #[inline(always)]
     pub fn absorb(&mut self, bytes: &[u8])
         ensures { Takes self.old bytes.now self.new }
     {
